@@ -1,0 +1,8 @@
+pub mod AppendixB
+pub mod Every
+pub mod Inverse
+pub mod Laws
+mod Bytes
+mod Entries
+mod Expansion
+mod States

@@ -1,0 +1,40 @@
+-- From one column to the state, and from one round to the next.
+use mathlib.Core.Path.{_≡_, refl, ap, _∙_}
+use mathlib.Core.List.{List, [], _∷_}
+use Prim.Native.Nat.{ℕ, suc, _+_, _-_, _≤_}
+use native.Mathlib.Omega.{arith}
+use lib.Bits.{bitXor}
+use Rattle.aes.specs.Cipher.{subBytes, shiftRows, mixColumn, mixColumns, addRoundKey, rounds, cipher, columns, wordAt}
+use Rattle.aes.specs.KeyExpansion.{rotWord, xorWord}
+use Rattle.aes.specs.Word.{bytes, products}
+use Rattle.aes.proofs.Bytes.{added}
+
+-- a column of MixColumns is the sum of four products, each turned by its row
+pub mixed : (x y z u p q s t : ℕ) → bytes x ≡ products p → bytes y ≡ rotWord (rotWord (rotWord (products q)))
+    → bytes z ≡ rotWord (rotWord (products s)) → bytes u ≡ rotWord (products t)
+    → bytes (bitXor (bitXor (bitXor x y) z) u) ≡ mixColumn (p ∷ q ∷ s ∷ t ∷ [])
+unfolding products rotWord xorWord mixColumn
+mixed x y z u p q s t ex ey ez eu = added (bitXor (bitXor x y) z) u (added (bitXor x y) z (added x y ex ey) ez) eu
+
+-- SubBytes acts on each byte, so that ShiftRows may come before it
+commute : (s : List ℕ) → subBytes (shiftRows s) ≡ shiftRows (subBytes s)
+unfolding subBytes shiftRows
+commute s = refl
+
+module _ (w block : List ℕ) where
+  -- the first AddRoundKey reads the block's columns
+  pub begun : {s l : List ℕ} → s ≡ addRoundKey w 0 l → l ≡ columns (wordAt block) → s ≡ rounds w block 0
+  unfolding rounds addRoundKey
+  begun p q = p ∙ ap (addRoundKey w 0) q
+
+  pub again : {s l m k : List ℕ} (n : ℕ) → 1 ≤ n → s ≡ rounds w block (n - 1) → l ≡ shiftRows s → m ≡ mixColumns (subBytes l) → k ≡ addRoundKey w n m
+      → k ≡ rounds w block (n + 1 - 1)
+  unfolding rounds
+  again n h p q r t =
+      let e : n + 1 - 1 ≡ suc (n - 1) = omega arith in
+      let e′ : n ≡ suc (n - 1) = omega arith in
+      t ∙ rw (r, q, p, commute, e) (ap (λ (i : ℕ). addRoundKey w i (mixColumns (shiftRows (subBytes (rounds w block (n - 1)))))) e′)
+
+  pub ended : {s l m k : List ℕ} (n : ℕ) → n ≡ 10 → s ≡ rounds w block (n - 1) → l ≡ shiftRows s → m ≡ subBytes l → k ≡ addRoundKey w 10 m → k ≡ cipher 10 w block
+  unfolding cipher
+  ended n e p q r t = t ∙ rw (r, q, p, commute, e)
