@@ -1,0 +1,118 @@
+// FIPS 197's vectors for AES-128. What this must print, the file stdout, was taken from the standard:
+// the key schedule from the last column of appendix A.1, and the ciphertexts from the ends of
+// appendices B and C.1.
+use libc::STDOUT_FILENO;
+
+fn print_octet(x: u8) {
+    io::print_hex(STDOUT_FILENO, x as u64, 2);
+}
+
+fn print_octets(octets: &[u8]) {
+    let mut i: usize = 0;
+    while i < octets.len() {
+        print_octet(octets[i]);
+        i += 1;
+    }
+}
+
+fn print_schedule(w: [u8; 176]) {
+    let octets: &[u8] = &w;
+    let mut i: usize = 0;
+    while i < 44 {
+        io::write_all(STDOUT_FILENO, b"A.1 w[");
+        io::print_decimal(STDOUT_FILENO, i as u64);
+        io::write_all(STDOUT_FILENO, b"] ");
+        print_octets(&octets[4 * i..4 * i + 4]);
+        io::write_all(STDOUT_FILENO, b"\n");
+        i += 1;
+    }
+}
+
+fn print_ciphertext(appendix: &[u8], key: [u8; 16], plaintext: [u8; 16]) {
+    let w = aes::expand(key);
+    let ciphertext = aes::encrypt(&w, plaintext);
+    io::write_all(STDOUT_FILENO, appendix);
+    print_octets(&ciphertext);
+    io::write_all(STDOUT_FILENO, b"\n");
+}
+
+fn main() {
+    // Appendices A.1 and B: one key.
+    let key: [u8; 16] = [
+        0x2b,
+        0x7e,
+        0x15,
+        0x16,
+        0x28,
+        0xae,
+        0xd2,
+        0xa6,
+        0xab,
+        0xf7,
+        0x15,
+        0x88,
+        0x09,
+        0xcf,
+        0x4f,
+        0x3c,
+    ];
+    print_schedule(aes::expand(key));
+    let plaintext: [u8; 16] = [
+        0x32,
+        0x43,
+        0xf6,
+        0xa8,
+        0x88,
+        0x5a,
+        0x30,
+        0x8d,
+        0x31,
+        0x31,
+        0x98,
+        0xa2,
+        0xe0,
+        0x37,
+        0x07,
+        0x34,
+    ];
+    print_ciphertext(b"B ", key, plaintext);
+
+    // Appendix C.1.
+    let counting: [u8; 16] = [
+        0x00,
+        0x01,
+        0x02,
+        0x03,
+        0x04,
+        0x05,
+        0x06,
+        0x07,
+        0x08,
+        0x09,
+        0x0a,
+        0x0b,
+        0x0c,
+        0x0d,
+        0x0e,
+        0x0f,
+    ];
+    let doubled: [u8; 16] = [
+        0x00,
+        0x11,
+        0x22,
+        0x33,
+        0x44,
+        0x55,
+        0x66,
+        0x77,
+        0x88,
+        0x99,
+        0xaa,
+        0xbb,
+        0xcc,
+        0xdd,
+        0xee,
+        0xff,
+    ];
+    print_ciphertext(b"C.1 ", counting, doubled);
+}
