@@ -1,0 +1,59 @@
+//! Times the proved code against `second` on the same work in one run. Each figure is the least of many runs, taken in turn.
+
+mod proved;
+
+use second::aes::Aes128;
+use std::hint::black_box;
+use std::time::Instant;
+
+const RUNS: usize = 21;
+
+/// The least time of each of the two, in nanoseconds.
+fn compare(mut ours: impl FnMut(), mut theirs: impl FnMut()) -> (f64, f64) {
+    let mut least = (f64::MAX, f64::MAX);
+    for _ in 0..RUNS {
+        let start = Instant::now();
+        ours();
+        let middle = Instant::now();
+        theirs();
+        let end = Instant::now();
+        least.0 = least.0.min((middle - start).as_nanos() as f64);
+        least.1 = least.1.min((end - middle).as_nanos() as f64);
+    }
+    least
+}
+
+fn report(name: &str, pieces: usize, (ours, theirs): (f64, f64)) {
+    let pieces = pieces as f64;
+    println!("{name:<28} {:>9.1} ns {:>9.1} ns {:>6.2}", ours / pieces, theirs / pieces, ours / theirs);
+}
+
+fn main() {
+    const BLOCKS: usize = 100_000;
+    let key: [u8; 16] = std::array::from_fn(|i| i as u8);
+    let schedule = proved::expand(&key);
+    let cipher = Aes128::new(&key);
+    assert_eq!(schedule, cipher.expanded());
+
+    println!("{:<28} {:>12} {:>12} {:>6}", "work", "proved", "second", "ratio");
+
+    let (mut ours, mut theirs) = ([0u8; 16], [0u8; 16]);
+    let times = compare(
+        || (0..BLOCKS).for_each(|_| ours = proved::encrypt(&schedule, &ours)),
+        || (0..BLOCKS).for_each(|_| theirs = cipher.encrypt(&theirs)),
+    );
+    assert_eq!(ours, theirs);
+    report("aes: a chained block", BLOCKS, times);
+
+    let times = compare(
+        || (0..BLOCKS as u128).for_each(|i| _ = black_box(proved::encrypt(&schedule, &i.to_be_bytes()))),
+        || (0..BLOCKS as u128).for_each(|i| _ = black_box(cipher.encrypt(&i.to_be_bytes()))),
+    );
+    report("aes: a block by itself", BLOCKS, times);
+
+    let times = compare(
+        || (0..BLOCKS as u128).for_each(|i| _ = black_box(proved::expand(&i.to_be_bytes()))),
+        || (0..BLOCKS as u128).for_each(|i| _ = black_box(Aes128::new(&i.to_be_bytes()))),
+    );
+    report("aes: a key schedule", BLOCKS, times);
+}

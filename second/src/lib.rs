@@ -1,0 +1,5 @@
+//! An ordinary program for the same frames, safe Rust with no dependencies and nothing shared with the proved code: what the proved code is
+//! compared with, in its results and in its speed.
+#![forbid(unsafe_code)]
+
+pub mod aes;
