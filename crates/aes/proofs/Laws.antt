@@ -13,19 +13,7 @@ use Rattle.aes.specs.Field.{_⊕_, inverse}
 use Rattle.aes.specs.Cipher.{byteAt, word, wordAt, columns, affineBit, affine, sbox, subBytes, shiftRows, addRoundKey, rounds, cipher}
 use Rattle.aes.specs.KeyExpansion.{subWord, rotWord, xorWord, roundConstants, rcon, temp, schedule, keyExpansion, aes128}
 use Rattle.aes.proofs.Every.{every-at}
-
-pub octet-at : {l : List ℕ} → Octets l → (i : ℕ) → getD l i 0 < 256
-octet-at none i = lit< tt
-octet-at (more p q) zero = p
-octet-at (more p q) (suc i) = octet-at q i
-
-pub octets-from : (l : List ℕ) → ((i : ℕ) → i < length l → getD l i 0 < 256) → Octets l
-octets-from [] h = none
-octets-from (x ∷ l) h = more (h zero (omega arith)) (octets-from l (λ i p. h (suc i) (omega arith)))
-
-pub octets-append : {a b : List ℕ} → Octets a → Octets b → Octets (a ++ b)
-octets-append none q = q
-octets-append (more h p) q = more h (octets-append p q)
+use Rattle.aes.proofs.Octets.{octet-at, octets-from, octets-append}
 
 pub octet-⊕ : (a b : ℕ) → a < 256 → b < 256 → a ⊕ b < 256
 unfolding _⊕_
@@ -121,6 +109,14 @@ pub octets-keyExpansion : (nk nr : ℕ) {key : List ℕ} → Octets key → Octe
 unfolding keyExpansion
 octets-keyExpansion nk nr p = octets-schedule nk (4 * (nr + 1) - nk) p
 
-pub aes128-is : (key block : List ℕ) → aes128 key block ≡ cipher 10 (keyExpansion 4 10 key) block
+pub aes128-is : (key : List ℕ) → aes128 key ≡ cipher 10 (keyExpansion 4 10 key)
 unfolding aes128
-aes128-is key block = refl
+aes128-is key = refl
+
+pub length-aes128 : (key block : List ℕ) → length (aes128 key block) ≡ 16
+unfolding aes128
+length-aes128 key block = length-cipher 10 (keyExpansion 4 10 key) block
+
+pub octets-aes128 : {key : List ℕ} (block : List ℕ) → Octets key → Octets (aes128 key block)
+unfolding aes128
+octets-aes128 block p = octets-cipher 10 block (octets-keyExpansion 4 10 p)
