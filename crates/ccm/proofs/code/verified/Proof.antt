@@ -1,0 +1,24 @@
+-- The first 8 octets of what `code_of_masked` gives are the code.
+use mathlib.Core.Path.{ap, _∙_}
+use mathlib.Core.List.{List}
+use Prim.Native.Nat.{ℕ}
+use borrow.Author.Needs.{needs}
+use Rattle.ccm.specs.Ccm.{same}
+use Rattle.ccm.proofs.code.verified.Statement.{statement}
+use Rattle.ccm.proofs.code.verified.Tie as tie
+
+returns : tie.Need-returns
+returns c =
+    let c₁ = c .before .before .before in
+    c .equal .ensures ∙ ap (λ (u : List ℕ). same u (c₁ .before .before .before .before .args .code .now)) (c₁ .code-of-masked .ensures)
+
+pub verified-spec : {M : Type 1} → statement M
+verified-spec =
+    tie.close
+    (tie.spec
+    (λ c κs. search needs)
+    (λ c. search needs)
+    (λ c. search needs)
+    (λ c. search needs)
+    (λ c κs. search needs)
+    returns)

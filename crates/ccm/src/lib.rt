@@ -1,0 +1,97 @@
+// CCM of RFC 3610 with AES-128, a code of 8 octets (M = 8) and lengths of two (L = 2).
+mod blocks; // blocks.rt: blocks of 16 octets
+mod chain; // chain.rt: section 2.2, authentication
+mod stream; // stream.rt: section 2.3, encryption
+mod code; // code.rt: the code of a message, in clear or encrypted
+
+use blocks::copy;
+use code::code_of;
+use code::verified;
+use stream::mask;
+ghost use mathlib.Core.Path.{_≡_};
+ghost use mathlib.Core.List.{_++_};
+ghost use Prim.Native.Nat.{_+_, _≤_};
+ghost use lib.ListN.{length, drop};
+ghost use Rattle.aes.specs.Cipher.{cipher};
+ghost use Rattle.aes.specs.KeyExpansion.{aes128};
+ghost use Rattle.ccm.specs.Ccm.{masked, U, inLimits, sealed, opened};
+ghost use Rattle.ccm.specs.Room.{fitting, outcome, written};
+
+// M, the octets of a code.
+const CODE: usize = 8;
+
+pub enum Outcome {
+    // The octets written.
+    Done(usize),
+    Refused,
+}
+
+fn in_limits(a: usize, m: usize) -> bool
+    ensures { λ r. ⌜ r ≡ inLimits a m ⌝ }
+{
+    if a < 1 {
+        return false;
+    }
+    if 64 < a {
+        return false;
+    }
+    m <= 65535
+}
+
+// The encrypted message and its code into the front of out.
+fn put(w: &[u8; 176], nonce: [u8; 13], aad: &[u8], body: &[u8], out: &mut [u8])
+    requires { ⌜ (length (now aad) ≤ 64) × (length (now body) ≤ 65535) × (length (now body) + 8 ≤ length (now out)) ⌝ }
+    ensures { λ _. ⌜
+        now (out .exit) ≡ (masked (cipher 10 (now (w .entry))) nonce 1 (now (body .entry)) ++ U (cipher 10 (now (w .entry))) 8 nonce (now (aad .entry)) (now (body .entry)))
+        ++ drop (length (now (body .entry)) + 8) (now (out .entry)) ⌝ }
+{
+    let n = body.len();
+    let code = code_of(w, nonce, aad, body);
+    mask(w, nonce, body, &mut out[0..n]);
+    copy(&code[0..CODE], &mut out[n..n + CODE]);
+}
+
+// Seals body with nonce and aad into the front of out; the rest of out is kept. A refusal writes nothing.
+pub fn seal(key: [u8; 16], nonce: [u8; 13], aad: &[u8], body: &[u8], out: &mut [u8]) -> Outcome
+    ensures { λ r. ⌜
+        r ≡ outcome (fitting (now (out .entry)) (sealed (aes128 key) 8 nonce (now (aad .entry)) (now (body .entry)))) ⌝ }
+    ensures { λ _. ⌜
+        now (out .exit) ≡ written (now (out .entry)) (fitting (now (out .entry)) (sealed (aes128 key) 8 nonce (now (aad .entry)) (now (body .entry)))) ⌝ }
+{
+    let n = body.len();
+    if !in_limits(aad.len(), n) {
+        return Outcome::Refused;
+    }
+    if out.len() < n + CODE {
+        return Outcome::Refused;
+    }
+    let w = aes::expand(key);
+    put(&w, nonce, aad, body, out);
+    Outcome::Done(n + CODE)
+}
+
+// Opens text with nonce and aad into the front of out; the rest of out is kept. A refusal writes nothing, and nothing is
+// written before the code is found right.
+pub fn open(key: [u8; 16], nonce: [u8; 13], aad: &[u8], text: &[u8], out: &mut [u8]) -> Outcome
+    ensures { λ r. ⌜
+        r ≡ outcome (fitting (now (out .entry)) (opened (aes128 key) 8 nonce (now (aad .entry)) (now (text .entry)))) ⌝ }
+    ensures { λ _. ⌜
+        now (out .exit) ≡ written (now (out .entry)) (fitting (now (out .entry)) (opened (aes128 key) 8 nonce (now (aad .entry)) (now (text .entry)))) ⌝ }
+{
+    if text.len() < CODE {
+        return Outcome::Refused;
+    }
+    let n = text.len() - CODE;
+    if !in_limits(aad.len(), n) {
+        return Outcome::Refused;
+    }
+    if out.len() < n {
+        return Outcome::Refused;
+    }
+    let w = aes::expand(key);
+    if !verified(&w, nonce, aad, &text[0..n], &text[n..]) {
+        return Outcome::Refused;
+    }
+    mask(&w, nonce, &text[0..n], &mut out[0..n]);
+    Outcome::Done(n)
+}
