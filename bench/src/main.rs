@@ -3,6 +3,7 @@
 mod proved;
 
 use second::aes::Aes128;
+use second::ccm::Ccm;
 use std::hint::black_box;
 use std::time::Instant;
 
@@ -28,14 +29,12 @@ fn report(name: &str, pieces: usize, (ours, theirs): (f64, f64)) {
     println!("{name:<28} {:>9.1} ns {:>9.1} ns {:>6.2}", ours / pieces, theirs / pieces, ours / theirs);
 }
 
-fn main() {
+fn aes() {
     const BLOCKS: usize = 100_000;
     let key: [u8; 16] = std::array::from_fn(|i| i as u8);
     let schedule = proved::expand(&key);
     let cipher = Aes128::new(&key);
     assert_eq!(schedule, cipher.expanded());
-
-    println!("{:<28} {:>12} {:>12} {:>6}", "work", "proved", "second", "ratio");
 
     let (mut ours, mut theirs) = ([0u8; 16], [0u8; 16]);
     let times = compare(
@@ -56,4 +55,36 @@ fn main() {
         || (0..BLOCKS as u128).for_each(|i| _ = black_box(Aes128::new(&i.to_be_bytes()))),
     );
     report("aes: a key schedule", BLOCKS, times);
+}
+
+/// Whole messages with 22 octets of authenticated data, the key expanded for each.
+fn ccm(length: usize) {
+    const MESSAGES: usize = 2_000;
+    let key: [u8; 16] = std::array::from_fn(|i| i as u8);
+    let nonce: [u8; 13] = std::array::from_fn(|i| 0x10 + i as u8);
+    let aad: [u8; 22] = std::array::from_fn(|i| 0x80 + i as u8);
+    let body: Vec<u8> = (0..length).map(|i| (i * 7) as u8).collect();
+    let (mut ours, mut theirs) = (vec![0; length + 8], vec![0; length + 8]);
+
+    let times = compare(
+        || (0..MESSAGES).for_each(|_| _ = black_box(proved::seal(black_box(&key), &nonce, &aad, &body, &mut ours))),
+        || (0..MESSAGES).for_each(|_| _ = black_box(Ccm::new(black_box(&key)).seal(&nonce, &aad, &body, &mut theirs))),
+    );
+    assert_eq!(ours, theirs);
+    report(&format!("ccm: {length} octets sealed"), MESSAGES, times);
+
+    let text = ours.clone();
+    let times = compare(
+        || (0..MESSAGES).for_each(|_| _ = black_box(proved::open(black_box(&key), &nonce, &aad, &text, &mut ours))),
+        || (0..MESSAGES).for_each(|_| _ = black_box(Ccm::new(black_box(&key)).open(&nonce, &aad, &text, &mut theirs))),
+    );
+    assert_eq!(ours[..length], body);
+    assert_eq!(theirs[..length], body);
+    report(&format!("ccm: {length} octets opened"), MESSAGES, times);
+}
+
+fn main() {
+    println!("{:<28} {:>12} {:>12} {:>6}", "work", "proved", "second", "ratio");
+    aes();
+    [64, 1_500, 2_296].into_iter().for_each(ccm);
 }

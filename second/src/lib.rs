@@ -3,3 +3,4 @@
 #![forbid(unsafe_code)]
 
 pub mod aes;
+pub mod ccm;
