@@ -1,15 +1,15 @@
 -- What the loops over blocks keep.
-use mathlib.Core.Path.{_≡_, refl, sym, ap, ap₂, _∙_}
-use mathlib.Core.Logic.{_⊎_, inl, inr, ⊎-elim}
-use mathlib.Core.List.{List, [], _∷_, _++_, append-nil, append-assoc}
+use mathlib.Core.Path.{_≡_, sym, ap, ap₂, _∙_}
+use mathlib.Core.Logic.{⊎-elim}
+use mathlib.Core.List.{List, _++_, append-nil, append-assoc}
 use Prim.Native.Nat.{ℕ, suc, _+_, _-_, _/_, _≤_, _<_, min}
 use native.Mathlib.Omega.{arith}
 use lib.ListN.{length, take, drop, replicate, length-append, length-take, length-drop, drop-of-length-le}
 use lib.Seq.{drop-drop, take-all, take-at}
 use Rattle.ccm.specs.Blocks.{xors, padded, blocks, BlockCipher}
 use Rattle.ccm.specs.Ccm.{chain, S, masked}
-use Rattle.ccm.proofs.Strings.{length-xors, xors-flip}
-use Rattle.ccm.proofs.Splitting.{le-or-le, blocks-more, blocks-none, length-S, length-masked, masked-none, masked-more, blocks-masked}
+use Rattle.ccm.proofs.Strings.{xors-flip}
+use Rattle.ccm.proofs.Splitting.{le-or-le, blocks-more, blocks-none, length-S, masked-none, masked-more, blocks-masked}
 
 -- the block that starts at `at`
 module _ (s : List ℕ) (at end : ℕ) (h : at < length s) (e : end ≡ min (at + 16) (length s)) where
