@@ -1,0 +1,12 @@
+pub mod Counting
+pub mod Delivery
+pub mod Examples
+pub mod Exactly
+pub mod Fields
+pub mod Numbering
+pub mod Passing
+pub mod Resealed
+pub mod Runs
+pub mod Sealed
+pub mod Sums
+pub mod Texts

@@ -1,0 +1,90 @@
+-- The frames that a fresh sender seals carry 1, 2, 3, .. in order: its last number is the number of calls done.
+use mathlib.Core.Path.{_≡_, refl, sym, ap, _∙_}
+use mathlib.Core.Bool.{Bool, true}
+use mathlib.Core.List.{List, [], _∷_, _++_}
+use mathlib.Core.Logic.{⊎-elim}
+use Prim.Native.Nat.{ℕ, zero, suc, _+_, _<_, _≤_}
+use native.Mathlib.Nat.{eq-or-lt-of-le, le-of-suc-le-suc, not-suc-le-zero}
+use native.Mathlib.Omega.{arith}
+use lib.Dec.{eqb}
+use lib.ListN.{length, take}
+use lib.Seq.{take-suc}
+use Rattle.rules.specs.Header.{priority}
+use Rattle.rules.specs.Nonce.{number}
+use Rattle.rules.specs.Records.{newSender, senderNext}
+use Rattle.rules.specs.Answers.{answerNumber}
+use Rattle.rules.specs.Sealing.{sealTests, sealAnswer}
+use Rattle.rules.specs.Calls.{Call, noCall, at, sealRun, sealAnswerAt, sealOutputAt}
+use Rattle.rules.specs.Counts.{bit, howMany}
+use Rattle.rules.specs.Numbers.{doneBefore, Numbered, Numbers}
+use Rattle.rules.specs.declared.Sender.{Sender}
+use Rattle.rules.specs.declared.Answer.{Answer}
+use Rattle.rules.specs.declared.Answer.the-variants.{Done}
+use Rattle.rules.proofs.Passing.{of-first, SealDone, seal-done}
+use Rattle.rules.proofs.Sealed.{sealed-number, written-is}
+use Rattle.rules.proofs.Delivery.{made-sender}
+
+-- a call moves the last number by one where it is done, and leaves it where it is refused
+abbrev Steps : Sender → Answer → Type 0
+Steps s a = senderNext s a .last ≡ s .last + bit (eqb (answerNumber a) 0)
+
+none : (n : ℕ) → n ≡ n + 0
+none n = omega arith
+
+steps : (s : Sender) (f room : List ℕ) → Steps s (sealAnswer s f room)
+unfolding sealAnswer senderNext
+steps s f room =
+    let z = none (s .last) in
+    of-first (Steps s) (sealTests s f room) (Done (s .last + 1) (priority f) (length f + 16)) (z, (z, (z, (z, (z, (z, (z, (z, (z, tt))))))))) refl
+
+run-append : (s : Sender) (cs ds : List Call) → sealRun s (cs ++ ds) ≡ sealRun (sealRun s cs) ds
+run-append s [] ds = refl
+run-append s (c ∷ cs) ds = run-append (senderNext s (sealAnswer s (c .frame) (c .room))) cs ds
+
+more : (b : ℕ → Bool) (i j : ℕ) → i < j → b i ≡ true → howMany i b < howMany j b
+more b i zero l e = absurd (not-suc-le-zero l)
+more b i (suc j) l e =
+    ⊎-elim (λ h. let z : bit (b j) ≡ 1 = ap (λ (k : ℕ). bit (b k)) (sym h) ∙ ap bit e in let w : howMany i b ≡ howMany j b = ap (λ (k : ℕ). howMany k b) h in omega arith)
+    (λ h. let z = more b i j h e in omega arith) (eq-or-lt-of-le (le-of-suc-le-suc l))
+
+module _ (key address : List ℕ) (keyId : ℕ) (cs : List Call) where
+  abbrev s₀ : Sender
+  s₀ = newSender key keyId address
+
+  last-is : (i : ℕ) → i ≤ length cs → sealRun s₀ (take i cs) .last ≡ doneBefore s₀ cs i
+  last-is zero l = refl
+  last-is (suc i) l =
+      let s = sealRun s₀ (take i cs) in
+      ap (λ t. sealRun s₀ t .last) (take-suc cs i noCall l)
+      ∙ ap (λ t. t .last) (run-append s₀ (take i cs) (at cs i ∷ []))
+      ∙ steps s (at cs i .frame) (at cs i .room)
+      ∙ ap (λ (t : ℕ). t + bit (eqb (answerNumber (sealAnswerAt s₀ cs i)) 0)) (last-is i (omega arith))
+
+  module _ (i n p k : ℕ) (l : i < length cs) (e : sealAnswerAt s₀ cs i ≡ Done n p k) where
+    done : SealDone (sealRun s₀ (take i cs)) (at cs i .frame) (at cs i .room) n p k
+    done = seal-done (sealRun s₀ (take i cs)) (at cs i .frame) (at cs i .room) n p k e
+
+    in-order : n ≡ doneBefore s₀ cs i + 1
+    in-order = done .number-is ∙ ap (λ (t : ℕ). t + 1) (last-is i (omega arith))
+
+    carried : number (take k (sealOutputAt s₀ cs i)) ≡ n
+    carried =
+        let s = sealRun s₀ (take i cs) in
+        ap number (written-is s (at cs i .frame) (at cs i .room) n p k e)
+        ∙ sealed-number s (at cs i .frame) n (done .sealable) (omega (arith, done .number-is, done .sealable .unspent))
+
+  numbered : Numbered s₀ cs
+  numbered =
+      record {
+        in-order = in-order;
+        carried = carried;
+        apart =
+            λ i j n n′ p p′ k k′ l h e e′.
+            let a = in-order i n p k (omega arith) e in
+            let b = in-order j n′ p′ k′ h e′ in
+            let m = more (λ x. eqb (answerNumber (sealAnswerAt s₀ cs x)) 0) i j l (ap (λ x. eqb (answerNumber x) 0) e) in
+            omega arith;
+      }
+
+pub numbers : Numbers
+numbers key address keyId e cs = rw (made-sender key keyId address e) (numbered key address keyId cs)

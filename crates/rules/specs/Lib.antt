@@ -1,0 +1,13 @@
+pub mod Limits
+pub mod Header
+pub mod Nonce
+pub mod Records
+pub mod Answers
+pub mod Sealing
+pub mod Opening
+pub mod Calls
+pub mod Demand2
+pub mod Demand3
+pub mod Counts
+pub mod Numbers
+pub mod Examples

@@ -1,0 +1,31 @@
+// The records and answers of document 01 as types. Their rules, and what follows from them over whole lists of calls, are
+// in specs/ and proofs/; this crate has no function.
+
+// What a sealing call takes and hands back.
+pub struct Sender {
+    pub key: [u8; 16],
+    pub key_id: u8,
+    pub address: [u8; 6],
+    // The last packet number used, 0 where there is none.
+    pub last: u64,
+}
+
+// What an opening call takes and hands back.
+pub struct Receiver {
+    pub key: [u8; 16],
+    pub key_id: u8,
+    pub peer: [u8; 6],
+    // The replay counter of each priority.
+    pub replay: [u64; 16],
+    pub format_errors: u32,
+    pub replays: u32,
+    pub decrypt_errors: u32,
+    pub opened: u32,
+}
+
+pub enum Answer {
+    // The packet number, the priority and the octets written.
+    Done(u64, u8, usize),
+    // Document 01's number.
+    Refused(u8),
+}
