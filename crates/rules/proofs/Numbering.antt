@@ -35,7 +35,7 @@ steps : (s : Sender) (f room : List ℕ) → Steps s (sealAnswer s f room)
 unfolding sealAnswer senderNext
 steps s f room =
     let z = none (s .last) in
-    of-first (Steps s) (sealTests s f room) (Done (s .last + 1) (priority f) (length f + 16)) (z, (z, (z, (z, (z, (z, (z, (z, (z, tt))))))))) refl
+    of-first (Steps s) (sealTests s f (length room)) (Done (s .last + 1) (priority f) (length f + 16)) (z, (z, (z, (z, (z, (z, (z, (z, (z, tt))))))))) refl
 
 run-append : (s : Sender) (cs ds : List Call) → sealRun s (cs ++ ds) ≡ sealRun (sealRun s cs) ds
 run-append s [] ds = refl
