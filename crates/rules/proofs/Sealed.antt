@@ -40,7 +40,7 @@ module _ (s : Sender) (f : List ℕ) (n : ℕ) (ok : Sealable s f) where
   abbrev ccmp : List ℕ
   ccmp = ccmpHeader n (s .«key_id»)
 
-  abbrev text : List ℕ
+  abbrev pub text : List ℕ
   text = contents (sealedText (s .key) (nonce (priority f) (address2 f) n) (authenticated f) (drop (headerLength f) f))
 
   front-size : length (take (headerLength f) f) ≡ headerLength f
@@ -54,12 +54,12 @@ module _ (s : Sender) (f : List ℕ) (n : ℕ) (ok : Sealable s f) where
   unfolding ccmpHeader
   ccmp-size = refl
 
-  sealed-is : sealedText (s .key) (nonce (priority f) (address2 f) n) (authenticated f) (drop (headerLength f) f) ≡ some text
+  pub sealed-is : sealedText (s .key) (nonce (priority f) (address2 f) n) (authenticated f) (drop (headerLength f) f) ≡ some text
   sealed-is =
       let a = authenticated-size f (ok .whole) in
       text-is (s .key) (nonce (priority f) (address2 f) n) (authenticated f) (drop (headerLength f) f) (omega arith) (omega arith) (omega (arith, length-drop (headerLength f) f, ok .body))
 
-  text-size : length text ≡ length f - headerLength f + 8
+  pub text-size : length text ≡ length f - headerLength f + 8
   text-size =
       text-length (s .key) (nonce (priority f) (address2 f) n) (authenticated f) (drop (headerLength f) f) text sealed-is
       ∙ ap (λ (x : ℕ). x + 8) (length-drop (headerLength f) f)
