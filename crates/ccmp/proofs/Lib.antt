@@ -1,0 +1,11 @@
+mod Addresses
+mod Answering
+mod Counters
+mod Data
+mod Frames
+mod Heads
+mod Keys
+mod Masks
+mod Numbers
+mod Refusals
+mod Writes

@@ -1,0 +1,30 @@
+// Document 01's frames sealed and opened, proved equal to the rules.
+use rules::Answer;
+use rules::Receiver;
+use rules::Sender;
+
+mod header; // header.rt: the fields of a frame
+mod nonce; // nonce.rt: the nonce
+mod number; // number.rt: the packet number in the CCMP header
+mod record; // record.rt: the two records
+mod tests; // tests.rt: the tests that sealing and opening share
+mod head; // head.rt: the header of a result
+mod sealing; // sealing.rt: a plain frame sealed
+mod opening; // opening.rt: a sealed frame opened
+
+pub use opening::open;
+pub use record::fresh_receiver;
+pub use record::fresh_sender;
+pub use sealing::seal;
+
+// What a call on a sender answers, and the sender afterwards.
+pub struct Sealed {
+    pub answer: Answer,
+    pub sender: Sender,
+}
+
+// What a call on a receiver answers, and the receiver afterwards.
+pub struct Opened {
+    pub answer: Answer,
+    pub receiver: Receiver,
+}
