@@ -1,0 +1,26 @@
+-- The loop stays inside the array.
+use Prim.Native.Nat.{_≤_, _-_}
+use borrow.Author.Needs.{needs}
+use Rattle.ccmp_limits.proofs.zero_counters.Statement.{statement}
+use Rattle.ccmp_limits.proofs.zero_counters.Tie as tie
+
+abbrev Inv-loop : tie.InvT-loop
+Inv-loop replay i₀ i = i ≤ 16
+
+abbrev μ-loop : tie.MeasureT-loop
+μ-loop replay i₀ i = 16 - i
+
+pub zero-counters-spec : {M : Type 1} → statement M
+zero-counters-spec =
+    tie.close
+    (tie.spec
+    Inv-loop
+    μ-loop
+    (λ c. search needs)
+    (λ c. search needs)
+    (λ c. search needs)
+    (λ c. search needs)
+    (λ c. search needs)
+    (λ c. search needs)
+    (λ c. search needs)
+    (λ c. search needs))

@@ -1,0 +1,628 @@
+// The limit cases of the frame rules: sizes, room, numbers, replays, records, and the order of the tests.
+// What this must print, the file stdout, was taken from document 01; ` | 01: ` is the answer that it gives, 0 for done.
+use libc::STDOUT_FILENO;
+use rules::Answer;
+use rules::Receiver;
+use rules::Sender;
+ghost use Prim.Native.Nat.{_≤_, _<_};
+
+// The greatest packet number, and the greatest count.
+const MOST: u64 = 281474976710655;
+
+const MOST_COUNT: u32 = 4294967295;
+
+fn say(text: &[u8]) {
+    io::write_all(STDOUT_FILENO, text);
+}
+
+fn number(n: u64) {
+    io::print_decimal(STDOUT_FILENO, n);
+}
+
+fn all_are(octets: &[u8], x: u8) -> bool {
+    let mut i: usize = 0;
+    while i < octets.len() {
+        if octets[i] != x {
+            return false;
+        }
+        i += 1;
+    }
+    true
+}
+
+fn zero_counters(replay: [u64; 16]) -> bool {
+    let mut i: usize = 0;
+    while i < 16 {
+        if replay[i] != 0 {
+            return false;
+        }
+        i += 1;
+    }
+    true
+}
+
+// Whether the first n octets of two arrays are the same.
+fn same(a: [u8; 2400], b: [u8; 2400], n: usize) -> bool
+    requires { ⌜ n ≤ 2400 ⌝ }
+{
+    let mut i: usize = 0;
+    while i < n {
+        if a[i] != b[i] {
+            return false;
+        }
+        i += 1;
+    }
+    true
+}
+
+fn print_answer(a: Answer) {
+    match a {
+        Answer::Done(n, p, k) => {
+            say(b"done ");
+            number(n);
+            say(b" ");
+            number(p as u64);
+            say(b" ");
+            number(k as u64);
+        }
+        Answer::Refused(x) => {
+            say(b"refused ");
+            number(x as u64);
+        }
+    }
+}
+
+fn print_counts(r: Receiver) {
+    say(b", counts ");
+    number(r.format_errors as u64);
+    say(b" ");
+    number(r.replays as u64);
+    say(b" ");
+    number(r.decrypt_errors as u64);
+    say(b" ");
+    number(r.opened as u64);
+}
+
+// The octets that an answer says were written.
+fn written(a: Answer) -> usize {
+    match a {
+        Answer::Done(_, _, k) => k,
+        Answer::Refused(_) => 0,
+    }
+}
+
+// Whether the output is as it was from octet k on.
+fn print_rest(out: [u8; 2400], k: usize) {
+    if k <= 2400 {
+        if all_are(&out[k..], 0xaa) {
+            say(b", rest kept");
+            return;
+        }
+    }
+    say(b", rest CHANGED");
+}
+
+// Whether what was written is the original.
+fn print_original(out: [u8; 2400], k: usize, original: [u8; 2400]) {
+    if k == 0 {
+        return;
+    }
+    if k <= 2400 {
+        if same(out, original, k) {
+            say(b", original");
+            return;
+        }
+    }
+    say(b", NOT THE ORIGINAL");
+}
+
+fn print_expected(expected: u64) {
+    say(b" | 01: ");
+    number(expected);
+    say(b"\n");
+}
+
+// Seals the first n octets of the frame with this room, and prints the rest of the line.
+fn seals(s: Sender, frame: [u8; 2400], n: usize, room: usize, expected: u64) -> Sender
+    requires { ⌜ (n ≤ 2400) × (room ≤ 2400) ⌝ }
+{
+    let mut out = [0xaau8; 2400];
+    let sealed = ccmp::seal(s, &frame[0..n], &mut out[0..room]);
+    let answer = sealed.answer;
+    let next = sealed.sender;
+    print_answer(answer);
+    say(b", last ");
+    number(next.last);
+    print_rest(out, written(answer));
+    print_expected(expected);
+    next
+}
+
+// Opens the first n octets of the text with this room, and prints the rest of the line.
+fn opens(
+    r: Receiver,
+    text: [u8; 2400],
+    n: usize,
+    room: usize,
+    original: [u8; 2400],
+    expected: u64,
+) -> Receiver
+    requires { ⌜ (n ≤ 2400) × (room ≤ 2400) ⌝ }
+{
+    let mut out = [0xaau8; 2400];
+    let opened = ccmp::open(r, &text[0..n], &mut out[0..room]);
+    let answer = opened.answer;
+    let next = opened.receiver;
+    print_answer(answer);
+    print_counts(next);
+    print_rest(out, written(answer));
+    print_original(out, written(answer), original);
+    print_expected(expected);
+    next
+}
+
+fn key() -> [u8; 16] {
+    [0, 1, 2, 3, 4, 5, 6, 7, 8, 9, 10, 11, 12, 13, 14, 15]
+}
+
+fn address() -> [u8; 6] {
+    [2, 0, 0, 0, 0, 1]
+}
+
+// A sender with key ID 2 and this last number.
+fn sender(last: u64) -> Sender {
+    let key = key();
+    let address = address();
+    Sender {
+        key,
+        key_id: 2,
+        address,
+        last,
+    }
+}
+
+// A receiver with key ID 2, and n as the replay counter of priority p.
+fn receiver(p: usize, n: u64) -> Receiver
+    requires { ⌜ p < 16 ⌝ }
+{
+    let key = key();
+    let peer = address();
+    let mut replay = [0u64; 16];
+    replay[p] = n;
+    Receiver {
+        key,
+        key_id: 2,
+        peer,
+        replay,
+        format_errors: 0,
+        replays: 0,
+        decrypt_errors: 0,
+        opened: 0,
+    }
+}
+
+fn filled() -> [u8; 2400] {
+    let mut octets = [0u8; 2400];
+    let mut i: usize = 0;
+    while i < 2400 {
+        octets[i] = (i % 251) as u8;
+        i += 1;
+    }
+    octets
+}
+
+// A plain frame of the sender's with this Frame Control, longer than any that is sealed. Its priority is 6 where QoS
+// Control stands at 24, and 9 where it stands at 30.
+fn plain(low: u8, high: u8) -> [u8; 2400] {
+    let mut frame = filled();
+    frame[0] = low;
+    frame[1] = high;
+    frame[10] = 2;
+    frame[11] = 0;
+    frame[12] = 0;
+    frame[13] = 0;
+    frame[14] = 0;
+    frame[15] = 1;
+    frame[24] = 0xf6;
+    frame[30] = 0xc9;
+    frame
+}
+
+// The frame with octet i changed to x.
+fn with(frame: [u8; 2400], i: usize, x: u8) -> [u8; 2400]
+    requires { ⌜ i < 2400 ⌝ }
+{
+    let mut changed = frame;
+    changed[i] = x;
+    changed
+}
+
+// The first n octets of the frame sealed by a sender with this last number.
+fn text_of(frame: [u8; 2400], n: usize, last: u64) -> [u8; 2400]
+    requires { ⌜ n ≤ 2400 ⌝ }
+{
+    let s = sender(last);
+    let mut out = [0u8; 2400];
+    ccmp::seal(s, &frame[0..n], &mut out);
+    out
+}
+
+// A body of this many octets sealed, after a header of h.
+fn seal_size(frame: [u8; 2400], h: usize, body: usize, expected: u64)
+    requires { ⌜ (h ≤ 32) × (body ≤ 2297) ⌝ }
+{
+    say(b"header ");
+    number(h as u64);
+    say(b", seal body ");
+    number(body as u64);
+    say(b": ");
+    seals(sender(0), frame, h + body, 2400, expected);
+}
+
+// A text opened that has this many octets more than its header of h.
+fn open_size(text: [u8; 2400], h: usize, more: usize, frame: [u8; 2400], expected: u64)
+    requires { ⌜ (h ≤ 32) × (more ≤ 2313) ⌝ }
+{
+    say(b"header ");
+    number(h as u64);
+    say(b", open ");
+    number(more as u64);
+    say(b" more: ");
+    opens(receiver(0, 0), text, h + more, 2400, frame, expected);
+}
+
+// The limits of the body, for one length of header.
+fn sizes(low: u8, high: u8, h: usize)
+    requires { ⌜ h ≤ 32 ⌝ }
+{
+    let frame = plain(low, high);
+    let least = text_of(frame, h + 1, 0);
+    let most = text_of(frame, h + 2296, 0);
+    seal_size(frame, h, 0, 5);
+    seal_size(frame, h, 1, 0);
+    seal_size(frame, h, 2296, 0);
+    seal_size(frame, h, 2297, 5);
+    open_size(least, h, 16, frame, 5);
+    open_size(least, h, 17, frame, 0);
+    open_size(most, h, 2312, frame, 0);
+    open_size(most, h, 2313, frame, 5);
+}
+
+// Room for one octet too few, and for just enough.
+fn rooms() {
+    let frame = plain(0x08, 0x00);
+    let text = text_of(frame, 25, 0);
+    let s = sender(0);
+    let r = receiver(0, 0);
+    say(b"seal to 41 octets, room 40: ");
+    seals(s, frame, 25, 40, 6);
+    say(b"seal to 41 octets, room 41: ");
+    seals(s, frame, 25, 41, 0);
+    say(b"open to 25 octets, room 24: ");
+    opens(r, text, 41, 24, frame, 6);
+    say(b"open to 25 octets, room 25: ");
+    opens(r, text, 41, 25, frame, 0);
+}
+
+// The last packet number of all.
+fn last_number() {
+    let frame = plain(0x08, 0x00);
+    say(b"seal after 2^48 - 2: ");
+    let spent = seals(sender(MOST - 1), frame, 25, 2400, 0);
+    say(b"seal once more: ");
+    seals(spent, frame, 25, 2400, 12);
+    let text = text_of(frame, 25, MOST - 1);
+    say(b"open number 2^48 - 1: ");
+    let r = opens(receiver(0, 0), text, 41, 2400, frame, 0);
+    say(b"open it again: ");
+    opens(r, text, 41, 2400, frame, 10);
+}
+
+fn replays() {
+    let frame = plain(0x88, 0x00);
+    let other = plain(0x08, 0x00);
+    let r = receiver(6, 7);
+    say(b"counter 7, open number 7: ");
+    opens(r, text_of(frame, 27, 6), 43, 2400, frame, 10);
+    say(b"counter 7, open number 8: ");
+    opens(r, text_of(frame, 27, 7), 43, 2400, frame, 0);
+    say(b"counter 7 of another priority, open number 1: ");
+    opens(r, text_of(other, 25, 0), 41, 2400, other, 0);
+    let zero = with(text_of(frame, 27, 0), 26, 0);
+    say(b"counter 7, open number 0: ");
+    opens(r, zero, 43, 2400, frame, 10);
+    say(b"counter 0, open number 0: ");
+    opens(receiver(0, 0), zero, 43, 2400, frame, 10);
+}
+
+// Each answer of sealing. One sender goes from call to call.
+fn seal_answers() {
+    let frame = plain(0x08, 0x00);
+    let fresh = ccmp::fresh_sender(key(), 2, address());
+    let s = fresh.sender;
+    say(b"seal 23 octets: ");
+    let s = seals(s, frame, 23, 2400, 2);
+    say(b"seal version 1: ");
+    let s = seals(s, plain(0x09, 0x00), 25, 2400, 3);
+    say(b"seal type 0: ");
+    let s = seals(s, plain(0xb0, 0x00), 25, 2400, 3);
+    say(b"seal a frame with no data: ");
+    let s = seals(s, plain(0x48, 0x00), 25, 2400, 3);
+    say(b"seal a protected frame: ");
+    let s = seals(s, plain(0x08, 0x40), 25, 2400, 4);
+    say(b"seal 31 octets of header 32: ");
+    let s = seals(s, plain(0x88, 0x03), 31, 2400, 2);
+    say(b"seal no body: ");
+    let s = seals(s, frame, 24, 2400, 5);
+    say(b"seal with no room: ");
+    let s = seals(s, frame, 25, 0, 6);
+    say(b"seal another's frame: ");
+    let s = seals(s, with(frame, 15, 9), 25, 2400, 7);
+    seal_answers_later(s, frame);
+}
+
+fn seal_answers_later(s: Sender, frame: [u8; 2400]) {
+    say(b"seal: ");
+    let mut s = seals(s, frame, 25, 2400, 0);
+    say(b"seal again: ");
+    s = seals(s, frame, 25, 2400, 0);
+    s.last = MOST;
+    say(b"seal, spent: ");
+    s = seals(s, frame, 25, 2400, 12);
+    s.key_id = 4;
+    say(b"seal, not sound: ");
+    seals(s, frame, 25, 2400, 1);
+}
+
+// Each answer of opening. One receiver goes from call to call.
+fn open_answers() {
+    let frame = plain(0x08, 0x00);
+    let text = text_of(frame, 25, 0);
+    let fresh = ccmp::fresh_receiver(key(), 2, address());
+    let r = fresh.receiver;
+    say(b"open 23 octets: ");
+    let r = opens(r, text, 23, 2400, frame, 2);
+    say(b"open version 1: ");
+    let r = opens(r, with(text, 0, 0x09), 41, 2400, frame, 3);
+    say(b"open type 0: ");
+    let r = opens(r, with(text, 0, 0xb0), 41, 2400, frame, 3);
+    say(b"open a frame with no data: ");
+    let r = opens(r, with(text, 0, 0x48), 41, 2400, frame, 3);
+    say(b"open a plain frame: ");
+    let r = opens(r, with(text, 1, 0), 41, 2400, frame, 4);
+    say(b"open 31 octets of header 32: ");
+    let r = opens(r, plain(0x88, 0x43), 31, 2400, frame, 2);
+    say(b"open with a body of 0: ");
+    let r = opens(r, text, 40, 2400, frame, 5);
+    say(b"open with no room: ");
+    let r = opens(r, text, 41, 0, frame, 6);
+    say(b"open another's frame: ");
+    let r = opens(r, with(text, 15, 9), 41, 2400, frame, 7);
+    open_answers_later(r, frame, text);
+}
+
+fn open_answers_later(r: Receiver, frame: [u8; 2400], text: [u8; 2400]) {
+    say(b"open with ExtIV 0: ");
+    let r = opens(r, with(text, 27, 0x80), 41, 2400, frame, 8);
+    say(b"open with key ID 1: ");
+    let r = opens(r, with(text, 27, 0x60), 41, 2400, frame, 9);
+    say(b"open number 0: ");
+    let r = opens(r, with(text, 24, 0), 41, 2400, frame, 10);
+    say(b"open under another number: ");
+    let r = opens(r, with(text, 24, 2), 41, 2400, frame, 11);
+    say(b"open with A1 damaged: ");
+    let r = opens(r, with(text, 4, 0xff), 41, 2400, frame, 11);
+    say(b"open with the text damaged: ");
+    let r = opens(r, with(text, 32, text[32] ^ 1), 41, 2400, frame, 11);
+    say(b"open with the code damaged: ");
+    let r = opens(r, with(text, 40, text[40] ^ 1), 41, 2400, frame, 11);
+    say(b"open: ");
+    let r = opens(r, text, 41, 2400, frame, 0);
+    say(b"open it again: ");
+    let mut r = opens(r, text, 41, 2400, frame, 10);
+    r.key_id = 4;
+    say(b"open, not sound: ");
+    opens(r, text, 41, 2400, frame, 1);
+}
+
+// Records at the limits of soundness and past them.
+fn senders() {
+    let frame = plain(0x08, 0x00);
+    let mut s = sender(0);
+    s.key_id = 3;
+    say(b"seal, key ID 3: ");
+    seals(s, frame, 25, 2400, 0);
+    s.key_id = 4;
+    say(b"seal, key ID 4: ");
+    seals(s, frame, 25, 2400, 1);
+    say(b"seal, last number 2^48: ");
+    seals(sender(MOST + 1), frame, 25, 2400, 1);
+}
+
+fn receivers() {
+    let frame = plain(0x08, 0x00);
+    let text = text_of(frame, 25, 0);
+    let mut r = receiver(0, 0);
+    r.key_id = 4;
+    say(b"open, key ID 4: ");
+    opens(r, text, 41, 2400, frame, 1);
+    say(b"open, a replay counter of 2^48 - 1: ");
+    opens(receiver(15, MOST), text, 41, 2400, frame, 0);
+    say(b"open, a replay counter of 2^48: ");
+    opens(receiver(15, MOST + 1), text, 41, 2400, frame, 1);
+}
+
+fn zero_sender(s: Sender) -> bool {
+    let key = s.key;
+    let address = s.address;
+    if s.key_id != 0 {
+        return false;
+    }
+    if s.last != 0 {
+        return false;
+    }
+    if !all_are(&key, 0) {
+        return false;
+    }
+    all_are(&address, 0)
+}
+
+fn zero_receiver(r: Receiver) -> bool {
+    let key = r.key;
+    let peer = r.peer;
+    let replay = r.replay;
+    if r.key_id != 0 {
+        return false;
+    }
+    if !all_are(&key, 0) {
+        return false;
+    }
+    if !all_are(&peer, 0) {
+        return false;
+    }
+    zero_counters(replay)
+}
+
+// Document 01 gives a fresh record an answer, but no number, priority or octets with it.
+fn print_fresh(a: Answer, zeros: bool, key_id: u8) {
+    match a {
+        Answer::Done(_, _, _) => say(b"done"),
+        Answer::Refused(x) => {
+            say(b"refused ");
+            number(x as u64);
+        }
+    }
+    if zeros {
+        say(b", all zeros");
+    } else {
+        say(b", key ID ");
+        number(key_id as u64);
+    }
+}
+
+fn fresh_sender(key_id: u8, expected: u64) {
+    let fresh = ccmp::fresh_sender(key(), key_id, address());
+    let answer = fresh.answer;
+    let s = fresh.sender;
+    say(b"fresh sender, key ID ");
+    number(key_id as u64);
+    say(b": ");
+    print_fresh(answer, zero_sender(s), s.key_id);
+    say(b", last ");
+    number(s.last);
+    print_expected(expected);
+}
+
+fn fresh_receiver(key_id: u8, expected: u64) {
+    let fresh = ccmp::fresh_receiver(key(), key_id, address());
+    let answer = fresh.answer;
+    let r = fresh.receiver;
+    say(b"fresh receiver, key ID ");
+    number(key_id as u64);
+    say(b": ");
+    print_fresh(answer, zero_receiver(r), r.key_id);
+    print_counts(r);
+    print_expected(expected);
+}
+
+// Where two tests apply, the first decides.
+fn seal_order() {
+    let frame = plain(0x08, 0x00);
+    let s = sender(0);
+    let mut unsound = s;
+    unsound.key_id = 4;
+    say(b"seal, not sound, 23 octets: ");
+    seals(unsound, frame, 23, 2400, 1);
+    say(b"seal, 23 octets, no data: ");
+    seals(s, plain(0x48, 0x00), 23, 2400, 2);
+    say(b"seal, no data, protected: ");
+    seals(s, plain(0x48, 0x40), 25, 2400, 3);
+    say(b"seal, protected, 31 octets of header 32: ");
+    seals(s, plain(0x88, 0x43), 31, 2400, 4);
+    say(b"seal, 31 octets of header 32, no room: ");
+    seals(s, plain(0x88, 0x03), 31, 0, 2);
+    say(b"seal, no body, no room: ");
+    seals(s, frame, 24, 0, 5);
+    say(b"seal, room 40, another's frame: ");
+    seals(s, with(frame, 15, 9), 25, 40, 6);
+    say(b"seal, another's frame, spent: ");
+    seals(sender(MOST), with(frame, 15, 9), 25, 41, 7);
+}
+
+fn open_order() {
+    let frame = plain(0x08, 0x00);
+    let r = receiver(0, 0);
+    let mut unsound = r;
+    unsound.key_id = 4;
+    say(b"open, not sound, 23 octets: ");
+    opens(unsound, frame, 23, 2400, frame, 1);
+    say(b"open, 23 octets, no data: ");
+    opens(r, plain(0x48, 0x40), 23, 2400, frame, 2);
+    say(b"open, no data, not protected: ");
+    opens(r, plain(0x48, 0x00), 41, 2400, frame, 3);
+    say(b"open, not protected, 31 octets of header 32: ");
+    opens(r, plain(0x88, 0x03), 31, 2400, frame, 4);
+    say(b"open, 31 octets of header 32, no room: ");
+    opens(r, plain(0x88, 0x43), 31, 0, frame, 2);
+    open_order_later(r, frame);
+}
+
+fn open_order_later(r: Receiver, frame: [u8; 2400]) {
+    let text = text_of(frame, 25, 0);
+    let other = with(text, 15, 9);
+    say(b"open, a body of 0, no room: ");
+    opens(r, text, 40, 0, frame, 5);
+    say(b"open, room 24, another's frame: ");
+    opens(r, other, 41, 24, frame, 6);
+    say(b"open, another's frame, ExtIV 0: ");
+    opens(r, with(other, 27, 0x80), 41, 25, frame, 7);
+    say(b"open, ExtIV 0, key ID 1: ");
+    opens(r, with(text, 27, 0x40), 41, 25, frame, 8);
+    say(b"open, key ID 1, number 0: ");
+    opens(r, with(with(text, 27, 0x60), 24, 0), 41, 25, frame, 9);
+    say(b"open, a replay, text damaged: ");
+    let damaged = with(text, 32, text[32] ^ 1);
+    opens(receiver(0, 1), damaged, 41, 25, frame, 10);
+}
+
+// Each count goes back to 0.
+fn counts() {
+    let frame = plain(0x08, 0x00);
+    let text = text_of(frame, 25, 0);
+    let mut r = receiver(0, 0);
+    r.format_errors = MOST_COUNT;
+    r.replays = MOST_COUNT;
+    r.decrypt_errors = MOST_COUNT;
+    r.opened = MOST_COUNT;
+    say(b"full counts, open with no room: ");
+    r = opens(r, text, 41, 0, frame, 6);
+    say(b"full counts, open 23 octets: ");
+    r = opens(r, text, 23, 2400, frame, 2);
+    say(b"full counts, open number 0: ");
+    r = opens(r, with(text, 24, 0), 41, 2400, frame, 10);
+    say(b"full counts, open under another number: ");
+    r = opens(r, with(text, 24, 2), 41, 2400, frame, 11);
+    say(b"full counts, open: ");
+    opens(r, text, 41, 2400, frame, 0);
+}
+
+fn main() {
+    sizes(0x08, 0x00, 24);
+    sizes(0x88, 0x00, 26);
+    sizes(0x08, 0x03, 30);
+    sizes(0x88, 0x03, 32);
+    rooms();
+    last_number();
+    replays();
+    seal_answers();
+    open_answers();
+    senders();
+    receivers();
+    fresh_sender(3, 0);
+    fresh_sender(4, 1);
+    fresh_receiver(3, 0);
+    fresh_receiver(4, 1);
+    seal_order();
+    open_order();
+    counts();
+}
