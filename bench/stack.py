@@ -1,0 +1,30 @@
+#!/usr/bin/env python3
+"""The most stack that one seal and one open of a frame take: each function's return address, pushes and room for locals, along the deepest
+chain of calls. `memcpy` is the platform's and not counted.
+
+  rt staticlib bench && bench/stack.py        needs objdump
+"""
+import pathlib
+import re
+import subprocess
+
+archive = pathlib.Path(__file__).parent.parent / "target" / "staticlib" / "libbench.a"
+text = subprocess.run(["objdump", "-dr", "--no-show-raw-insn", archive], check=True, capture_output=True, text=True).stdout
+frames, calls = {}, {}
+for section in re.split(r"\n(?=[0-9a-f]+ <)", text):
+    if named := re.match(r"[0-9a-f]+ <(.+)>:\n", section):
+        name = named[1]
+        pushes = len(re.findall(r"\bpush ", section))
+        room = sum(int(n, 16) for n in re.findall(r"\bsub +\$(0x[0-9a-f]+),%rsp", section))
+        frames[name] = 8 + 8 * pushes + room
+        calls[name] = set(re.findall(r"\bcall .*\n.*R_X86_64_\w+\s+(?:\.text\.)?([^\s+-]+)", section))
+
+
+def depth(name):
+    inner = max((depth(callee) for callee in calls[name] if callee in frames), default=(0, []))
+    return frames[name] + inner[0], [f"{name} {frames[name]}"] + inner[1]
+
+
+for name in "bench_ccmp_seal", "bench_ccmp_open":
+    octets, chain = depth(name)
+    print(f"{name}: {octets} octets ({', '.join(chain)})")
