@@ -9,9 +9,10 @@ use native.Mathlib.Omega.{arith}
 use lib.Dec.{eqb}
 use lib.ListN.{length, take}
 use lib.Seq.{take-suc}
+use borrow.Author.Tests.{le-leb}
 use Rattle.rules.specs.Header.{priority}
 use Rattle.rules.specs.Nonce.{number}
-use Rattle.rules.specs.Records.{newSender, senderNext}
+use Rattle.rules.specs.Records.{soundSender, freshAnswer, newSender, senderNext}
 use Rattle.rules.specs.Answers.{answerNumber}
 use Rattle.rules.specs.Sealing.{sealTests, sealAnswer}
 use Rattle.rules.specs.Calls.{Call, noCall, at, sealRun, sealAnswerAt, sealOutputAt}
@@ -19,10 +20,10 @@ use Rattle.rules.specs.Counts.{bit, howMany}
 use Rattle.rules.specs.Numbers.{doneBefore, Numbered, Numbers}
 use Rattle.rules.specs.declared.Sender.{Sender}
 use Rattle.rules.specs.declared.Answer.{Answer}
-use Rattle.rules.specs.declared.Answer.the-variants.{Done}
+use Rattle.rules.specs.declared.Answer.the-variants.{Done, Refused}
 use Rattle.rules.proofs.Passing.{of-first, SealDone, seal-done}
 use Rattle.rules.proofs.Sealed.{sealed-number, written-is}
-use Rattle.rules.proofs.Delivery.{made-sender}
+use Rattle.rules.proofs.Delivery.{made, made-sender}
 
 -- a call moves the last number by one where it is done, and leaves it where it is refused
 abbrev Steps : Sender → Answer → Type 0
@@ -40,6 +41,20 @@ steps s f room =
 run-append : (s : Sender) (cs ds : List Call) → sealRun s (cs ++ ds) ≡ sealRun (sealRun s cs) ds
 run-append s [] ds = refl
 run-append s (c ∷ cs) ds = run-append (senderNext s (sealAnswer s (c .frame) (c .room))) cs ds
+
+keeps-sound : (s : Sender) (f room : List ℕ) → soundSender s ≡ true → soundSender (senderNext s (sealAnswer s f room)) ≡ true
+unfolding soundSender senderNext
+keeps-sound s f room sound = go (sealAnswer s f room) refl
+  where
+    go : (a : Answer) → sealAnswer s f room ≡ a → soundSender (senderNext s a) ≡ true
+    go (Done n p k) e =
+        let q = seal-done s f room n p k e .sealable in
+        rw (le-leb _ _ (q .id-fits), le-leb _ _ (q .unspent))
+    go (Refused a) e = sound
+
+run-sound : (s : Sender) (cs : List Call) → soundSender s ≡ true → soundSender (sealRun s cs) ≡ true
+run-sound s [] sound = sound
+run-sound s (c ∷ cs) sound = run-sound (senderNext s (sealAnswer s (c .frame) (c .room))) cs (keeps-sound s (c .frame) (c .room) sound)
 
 more : (b : ℕ → Bool) (i j : ℕ) → i < j → b i ≡ true → howMany i b < howMany j b
 more b i zero l e = absurd (not-suc-le-zero l)
@@ -73,8 +88,8 @@ module _ (key address : List ℕ) (keyId : ℕ) (cs : List Call) where
         ap number (written-is s (at cs i .frame) (at cs i .room) n p k e)
         ∙ sealed-number s (at cs i .frame) n (done .sealable) (omega (arith, done .number-is, done .sealable .unspent))
 
-  numbered : Numbered s₀ cs
-  numbered =
+  numbered : soundSender s₀ ≡ true → Numbered s₀ cs
+  numbered sound =
       record {
         in-order = in-order;
         carried = carried;
@@ -84,7 +99,12 @@ module _ (key address : List ℕ) (keyId : ℕ) (cs : List Call) where
             let b = in-order j n′ p′ k′ h e′ in
             let m = more (λ x. eqb (answerNumber (sealAnswerAt s₀ cs x)) 0) i j l (ap (λ x. eqb (answerNumber x) 0) e) in
             omega arith;
+        sound = run-sound s₀ cs sound;
       }
 
+fresh-sound : (key address : List ℕ) (keyId : ℕ) → freshAnswer keyId ≡ Done 0 0 0 → soundSender (newSender key keyId address) ≡ true
+unfolding soundSender
+fresh-sound key address keyId e = rw (made keyId e)
+
 pub numbers : Numbers
-numbers key address keyId e cs = rw (made-sender key keyId address e) (numbered key address keyId cs)
+numbers key address keyId e cs = rw (made-sender key keyId address e) (numbered key address keyId cs (fresh-sound key address keyId e))
