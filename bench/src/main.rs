@@ -4,6 +4,7 @@ mod proved;
 
 use second::aes::Aes128;
 use second::ccm::Ccm;
+use second::frame::{Receiver, Sender};
 use std::hint::black_box;
 use std::time::Instant;
 
@@ -67,7 +68,7 @@ fn ccm(length: usize) {
     let (mut ours, mut theirs) = (vec![0; length + 8], vec![0; length + 8]);
 
     let times = compare(
-        || (0..MESSAGES).for_each(|_| _ = black_box(proved::seal(black_box(&key), &nonce, &aad, &body, &mut ours))),
+        || (0..MESSAGES).for_each(|_| _ = black_box(proved::ccm_seal(black_box(&key), &nonce, &aad, &body, &mut ours))),
         || (0..MESSAGES).for_each(|_| _ = black_box(Ccm::new(black_box(&key)).seal(&nonce, &aad, &body, &mut theirs))),
     );
     assert_eq!(ours, theirs);
@@ -75,7 +76,7 @@ fn ccm(length: usize) {
 
     let text = ours.clone();
     let times = compare(
-        || (0..MESSAGES).for_each(|_| _ = black_box(proved::open(black_box(&key), &nonce, &aad, &text, &mut ours))),
+        || (0..MESSAGES).for_each(|_| _ = black_box(proved::ccm_open(black_box(&key), &nonce, &aad, &text, &mut ours))),
         || (0..MESSAGES).for_each(|_| _ = black_box(Ccm::new(black_box(&key)).open(&nonce, &aad, &text, &mut theirs))),
     );
     assert_eq!(ours[..length], body);
@@ -83,8 +84,39 @@ fn ccm(length: usize) {
     report(&format!("ccm: {length} octets opened"), MESSAGES, times);
 }
 
+/// QoS data frames with a body of this length, from a record as it is before each call, the key expanded for each.
+fn frame(length: usize) {
+    const FRAMES: usize = 2_000;
+    let key: [u8; 16] = std::array::from_fn(|i| i as u8);
+    let (address, last, key_id) = ([2, 0, 0, 0, 0, 1], 0x0102_0304_0506, 2);
+    let sender = Sender { key, key_id, address, last_number: last };
+    let receiver = Receiver { replay_counters: [last; 16], ..Receiver::fresh(key, key_id, address).1 };
+    let mut plain: Vec<u8> = (0..26 + length).map(|i| (i * 7) as u8).collect();
+    plain[..2].copy_from_slice(&[0x88, 0x01]);
+    plain[10..16].copy_from_slice(&address);
+    let (mut ours, mut theirs) = (vec![0; plain.len() + 16], vec![0; plain.len() + 16]);
+
+    let times = compare(
+        || (0..FRAMES).for_each(|_| assert_eq!(proved::ccmp_seal(black_box(&key), key_id, &address, last, &plain, &mut ours), 0)),
+        || (0..FRAMES).for_each(|_| assert!(black_box(&sender).clone().seal(&plain, &mut theirs).is_ok())),
+    );
+    assert_eq!(ours, theirs);
+    report(&format!("frame: {length} octets sealed"), FRAMES, times);
+
+    let sealed = ours.clone();
+    let replay = receiver.replay_counters;
+    let times = compare(
+        || (0..FRAMES).for_each(|_| assert_eq!(proved::ccmp_open(black_box(&key), key_id, &address, &replay, &sealed, &mut ours), 0)),
+        || (0..FRAMES).for_each(|_| assert!(black_box(&receiver).clone().open(&sealed, &mut theirs).is_ok())),
+    );
+    assert_eq!(ours[..plain.len()], plain);
+    assert_eq!(theirs[..plain.len()], plain);
+    report(&format!("frame: {length} octets opened"), FRAMES, times);
+}
+
 fn main() {
     println!("{:<28} {:>12} {:>12} {:>6}", "work", "proved", "second", "ratio");
     aes();
     [64, 1_500, 2_296].into_iter().for_each(ccm);
+    [64, 1_500, 2_296].into_iter().for_each(frame);
 }

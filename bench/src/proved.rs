@@ -10,6 +10,12 @@ mod exported {
         pub fn bench_ccm_open(
             key: &[u8; 16], nonce: &[u8; 13], aad: *const u8, aad_len: usize, text: *const u8, text_len: usize, out: *mut u8, out_len: usize,
         ) -> u64;
+        pub fn bench_ccmp_seal(
+            key: &[u8; 16], key_id: u8, address: &[u8; 6], last: u64, frame: *const u8, frame_len: usize, out: *mut u8, out_len: usize,
+        ) -> u64;
+        pub fn bench_ccmp_open(
+            key: &[u8; 16], key_id: u8, peer: &[u8; 6], replay: &[u64; 16], frame: *const u8, frame_len: usize, out: *mut u8, out_len: usize,
+        ) -> u64;
     }
 }
 
@@ -31,10 +37,20 @@ fn written(number: u64) -> Option<usize> {
     (number != u64::MAX).then_some(number as usize)
 }
 
-pub fn seal(key: &[u8; 16], nonce: &[u8; 13], aad: &[u8], body: &[u8], out: &mut [u8]) -> Option<usize> {
+pub fn ccm_seal(key: &[u8; 16], nonce: &[u8; 13], aad: &[u8], body: &[u8], out: &mut [u8]) -> Option<usize> {
     written(unsafe { exported::bench_ccm_seal(key, nonce, aad.as_ptr(), aad.len(), body.as_ptr(), body.len(), out.as_mut_ptr(), out.len()) })
 }
 
-pub fn open(key: &[u8; 16], nonce: &[u8; 13], aad: &[u8], text: &[u8], out: &mut [u8]) -> Option<usize> {
+pub fn ccm_open(key: &[u8; 16], nonce: &[u8; 13], aad: &[u8], text: &[u8], out: &mut [u8]) -> Option<usize> {
     written(unsafe { exported::bench_ccm_open(key, nonce, aad.as_ptr(), aad.len(), text.as_ptr(), text.len(), out.as_mut_ptr(), out.len()) })
+}
+
+/// The number of the answer.
+pub fn ccmp_seal(key: &[u8; 16], key_id: u8, address: &[u8; 6], last: u64, frame: &[u8], out: &mut [u8]) -> u64 {
+    unsafe { exported::bench_ccmp_seal(key, key_id, address, last, frame.as_ptr(), frame.len(), out.as_mut_ptr(), out.len()) }
+}
+
+/// The number of the answer.
+pub fn ccmp_open(key: &[u8; 16], key_id: u8, peer: &[u8; 6], replay: &[u64; 16], frame: &[u8], out: &mut [u8]) -> u64 {
+    unsafe { exported::bench_ccmp_open(key, key_id, peer, replay, frame.as_ptr(), frame.len(), out.as_mut_ptr(), out.len()) }
 }

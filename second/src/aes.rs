@@ -85,10 +85,8 @@ impl Aes128 {
     }
 
     pub fn encrypt(&self, block: &[u8; 16]) -> [u8; 16] {
-        let mut s = words(block);
-        for c in 0..4 {
-            s[c] ^= self.round_keys[0][c];
-        }
+        let input = words(block);
+        let mut s: [u32; 4] = std::array::from_fn(|c| input[c] ^ self.round_keys[0][c]);
         for key in &self.round_keys[1..10] {
             s = std::array::from_fn(|c| {
                 T0[byte(s[c], 0)] ^ T1[byte(s[(c + 1) % 4], 1)] ^ T2[byte(s[(c + 2) % 4], 2)] ^ T3[byte(s[(c + 3) % 4], 3)] ^ key[c]

@@ -3,4 +3,6 @@
 #![forbid(unsafe_code)]
 
 pub mod aes;
+pub mod book;
 pub mod ccm;
+pub mod frame;

@@ -6,6 +6,7 @@ pub mod Fields
 pub mod Numbering
 pub mod Passing
 pub mod Resealed
+pub mod Rooms
 pub mod Runs
 pub mod Sealed
 pub mod Sums

@@ -1,0 +1,13 @@
+mod Answered
+pub mod Decimals
+mod Digits
+mod Feeding
+mod Forms
+mod Held
+pub mod Hexadecimals
+mod KeyLine
+mod Lines
+mod Parts
+mod Puts
+mod Turns
+pub mod Whole

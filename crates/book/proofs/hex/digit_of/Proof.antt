@@ -1,0 +1,27 @@
+-- The branches are the definition's tests.
+use borrow.Author.Needs.{needs}
+use borrow.Author.Tests.{le-leb, lt-leb}
+use mathlib.Core.Bool.{false, _&&_}
+use mathlib.Core.Logic.{⊎-elim}
+use mathlib.Core.Path.{_≡_}
+use lib.Dec.{leb}
+use Rattle.book.proofs.hex.digit_of.Statement.{statement}
+use Rattle.book.proofs.hex.digit_of.Tie as tie
+
+not-0-9 : (c : tie.Joined1) → let x = c .before .args .x in leb 48 x && leb x 57 ≡ false
+not-0-9 c = ⊎-elim (λ w. rw (le-leb _ _ (w .0 .taken), w .1 .left)) (λ w. rw (lt-leb _ _ (w .left))) (c .if1 .came)
+
+not-a-f : (c : tie.Joined3) → let x = c .before .before .args .x in leb 97 x && leb x 102 ≡ false
+not-a-f c = ⊎-elim (λ w. rw (le-leb _ _ (w .0 .taken), w .1 .left)) (λ w. rw (lt-leb _ _ (w .left))) (c .if3 .came)
+
+returns : tie.Need-returns
+returns c = rw (le-leb _ _ (c .before .if1 .taken), c .if2 .taken)
+
+returns-2 : tie.Need-returns-2
+returns-2 c = rw (not-0-9 (c .before .before), le-leb _ _ (c .before .if3 .taken), c .if4 .taken)
+
+returns-3 : tie.Need-returns-3
+returns-3 c = rw (not-0-9 (c .before), not-a-f c)
+
+pub digit-of-spec : {M : Type 1} → statement M
+digit-of-spec = tie.close (tie.spec returns (λ c. search needs) returns-2 returns-3)

@@ -1,0 +1,95 @@
+-- Document 01, "The frame book": what a book writes to a line, and the book after it.
+use mathlib.Core.Bool.{cond}
+use mathlib.Core.List.{List, [], _∷_, _++_}
+use Prim.Native.Nat.{ℕ, _+_, _%_, _^_}
+use lib.ListN.{length, take, getD, replicate}
+use Rattle.rules.specs.Limits.{added}
+use Rattle.rules.specs.Records.{newSender, newReceiver, freshSender, freshReceiver, senderNext, receiverNext}
+use Rattle.rules.specs.Answers.{answerNumber}
+use Rattle.rules.specs.Sealing.{contents, sealAnswer, sealOutput}
+use Rattle.rules.specs.Opening.{openAnswer, openOutput}
+use Rattle.rules.specs.declared.Sender.{Sender}
+use Rattle.rules.specs.declared.Receiver.{Receiver}
+use Rattle.rules.specs.declared.Answer.{Answer}
+use Rattle.rules.specs.declared.Answer.the-variants.{Done, Refused}
+use Rattle.book.specs.declared.Book.{Book}
+use Rattle.book.specs.declared.Stage.{Stage}
+use Rattle.book.specs.declared.Stage.the-variants.{First, Going, Ended}
+use Rattle.book.specs.Decimal.{decimal}
+use Rattle.book.specs.Hex.{digit, hexOf, octetsOf}
+use Rattle.book.specs.Text.{tab, lineFeed, lineOf}
+use Rattle.book.specs.Line.{fields, field, sealWord, openWord, isKeyLine, Asked, malformed, sealing, opening, asked}
+
+-- before line 1
+abbrev pub newBook : Book
+newBook =
+    record { lines = 0; stage = First; sender = newSender (replicate 16 0) 0 (replicate 6 0); receiver = newReceiver (replicate 16 0) 0 (replicate 6 0) }
+
+-- the number of the next line, in 64 bits
+abbrev pub lineNumber : Book → ℕ
+lineNumber b = (b .lines + 1) % 2 ^ 64
+
+-- the book one line later
+abbrev pub turned : Book → Stage → Sender → Receiver → Book
+turned b stage s r = record { lines = lineNumber b; stage = stage; sender = s; receiver = r }
+
+-- room that is always enough
+abbrev pub roomFor : List ℕ → List ℕ
+roomFor frame = replicate (length frame + added) 0
+
+-- line number, `bad`
+unfoldable pub badLine : ℕ → List ℕ
+badLine n = lineOf (decimal n ∷ (98 ∷ 97 ∷ 100 ∷ []) ∷ [])
+
+-- the result frame, or `-`
+abbrev pub shown : Answer → List ℕ → List ℕ
+shown (Done n p k) output = hexOf (take k output)
+shown (Refused a) output = 45 ∷ []
+
+-- line number, word, answer number, result frame or `-`
+unfoldable pub answerLine : ℕ → List ℕ → Answer → List ℕ → List ℕ
+answerLine n word a output = lineOf (decimal n ∷ word ∷ decimal (answerNumber a) ∷ shown a output ∷ [])
+
+-- the same, the word being between its tabs
+abbrev pub answerText : ℕ → List ℕ → Answer → List ℕ → List ℕ
+answerText n word a output = decimal n ++ (word ++ (decimal (answerNumber a) ++ (tab ∷ (shown a output ++ (lineFeed ∷ [])))))
+
+abbrev pub octetsWritten : Answer → ℕ
+octetsWritten (Done n p k) = k
+octetsWritten (Refused a) = 0
+
+-- a later line is answered by sealing or opening its frame; a malformed one changes nothing
+unfoldable pub answerTo : Book → Asked → List ℕ
+answerTo b malformed = badLine (lineNumber b)
+answerTo b (sealing f) = answerLine (lineNumber b) sealWord (sealAnswer (b .sender) f (roomFor f)) (sealOutput (b .sender) f (roomFor f))
+answerTo b (opening f) = answerLine (lineNumber b) openWord (openAnswer (b .receiver) f (roomFor f)) (openOutput (b .receiver) f (roomFor f))
+
+unfoldable pub afterAsked : Book → Asked → Book
+afterAsked b malformed = turned b Going (b .sender) (b .receiver)
+afterAsked b (sealing f) = turned b Going (senderNext (b .sender) (sealAnswer (b .sender) f (roomFor f))) (b .receiver)
+afterAsked b (opening f) = turned b Going (b .sender) (receiverNext (b .receiver) (openAnswer (b .receiver) f (roomFor f)))
+
+-- a good line 1 makes the two records and writes nothing; a bad one ends the run
+unfoldable pub begun : Book → List (List ℕ) → Book
+begun b fs =
+    let key = contents (octetsOf (field fs 1)) in
+    let keyId = digit (getD (field fs 2) 0 0) in
+    cond (isKeyLine fs)
+    (turned b Going (freshSender key keyId (contents (octetsOf (field fs 3)))) (freshReceiver key keyId (contents (octetsOf (field fs 4)))))
+    (turned b Ended (b .sender) (b .receiver))
+
+abbrev pub saysAt : Stage → Book → List (List ℕ) → List ℕ
+saysAt First b fs = cond (isKeyLine fs) [] (badLine (lineNumber b))
+saysAt Going b fs = answerTo b (asked fs)
+saysAt Ended b fs = []
+
+abbrev pub nextAt : Stage → Book → List (List ℕ) → Book
+nextAt First b fs = begun b fs
+nextAt Going b fs = afterAsked b (asked fs)
+nextAt Ended b fs = b
+
+unfoldable pub bookSays : Book → List ℕ → List ℕ
+bookSays b line = saysAt (b .stage) b (fields line)
+
+unfoldable pub bookNext : Book → List ℕ → Book
+bookNext b line = nextAt (b .stage) b (fields line)

@@ -1,0 +1,162 @@
+// The forms of a line.
+use crate::hex::Read;
+use crate::hex::digit_of;
+use crate::hex::read_hex;
+ghost use mathlib.Core.Path.{_≡_};
+ghost use mathlib.Core.Bool.{true, false, not};
+ghost use Prim.Native.Nat.{_*_, _≤_};
+ghost use lib.ListN.{length};
+ghost use Rattle.ccm.specs.Ccm.{same};
+ghost use Rattle.rules.specs.Sealing.{contents};
+ghost use Rattle.rules.specs.Opening.{isNone};
+ghost use Rattle.book.specs.Hex.{octetsOf};
+ghost use Rattle.book.specs.Line.{fields, isKeyLine, asked, requestIn, frameIn, KeyTabs, Given};
+
+const TAB: u8 = 9;
+
+const MOST_LINE: usize = 4800;
+
+const MOST_KEY_ID: u8 = 3;
+
+// What a later line asks, the frame being so many octets.
+pub enum Request {
+    Malformed,
+    Seal(usize),
+    Open(usize),
+}
+
+// What a good line 1 gives; zeros where it is not good.
+pub struct Keys {
+    pub good: bool,
+    pub key: [u8; 16],
+    pub key_id: u8,
+    pub own: [u8; 6],
+    pub peer: [u8; 6],
+}
+
+// Whether a field is this word.
+fn is_word(field: &[u8], word: &[u8]) -> bool
+    ensures { λ r. ⌜ r ≡ same (now (field .entry)) (now (word .entry)) ⌝ }
+{
+    if field.len() != word.len() {
+        return false;
+    }
+    let mut i = 0;
+    while i < field.len() {
+        if field[i] != word[i] {
+            return false;
+        }
+        i += 1;
+    }
+    true
+}
+
+// What a line after the first asks. Its frame goes into the front of the room.
+pub(crate) fn request_of(line: &[u8], frame: &mut [u8]) -> Request
+    requires { ⌜ length (now frame) ≡ 2400 ⌝ }
+    ensures { λ r. ⌜ requestIn r (now (frame .exit)) ≡ asked (fields (now (line .entry))) ⌝ }
+    ensures { λ r. ⌜ frameIn r ≤ 2400 ⌝ }
+{
+    let n = line.len();
+    if MOST_LINE < n {
+        return Request::Malformed;
+    }
+    let end = bytes::scan::find(line, 0, n, TAB);
+    if end == n {
+        return Request::Malformed;
+    }
+    let digits = end + 1;
+    if is_word(&line[..end], b"seal") {
+        return match read_hex(&line[digits..], frame) {
+            Read::Malformed => Request::Malformed,
+            Read::Octets(k) => Request::Seal(k),
+        };
+    }
+    if is_word(&line[..end], b"open") {
+        return match read_hex(&line[digits..], frame) {
+            Read::Malformed => Request::Malformed,
+            Read::Octets(k) => Request::Open(k),
+        };
+    }
+    Request::Malformed
+}
+
+// Whether the tabs stand as in a good line 1: after 3, 32, 1 and 12 octets, and 12 more.
+fn is_parted(line: &[u8]) -> bool
+    ensures { λ r. ⌜ (r ≡ true → KeyTabs (now (line .entry))) ⌝ }
+    ensures { λ r. ⌜ (isKeyLine (fields (now (line .entry))) ≡ true → r ≡ true) ⌝ }
+{
+    if line.len() != 64 {
+        return false;
+    }
+    if bytes::scan::find(line, 0, 64, TAB) != 3 {
+        return false;
+    }
+    if bytes::scan::find(line, 4, 64, TAB) != 36 {
+        return false;
+    }
+    if bytes::scan::find(line, 37, 64, TAB) != 38 {
+        return false;
+    }
+    bytes::scan::find(line, 39, 64, TAB) == 51
+}
+
+// Reads digits that are to fill all of out.
+fn read_all(digits: &[u8], out: &mut [u8]) -> bool
+    requires { ⌜ length (now digits) ≡ 2 * length (now out) ⌝ }
+    ensures { λ r. ⌜ r ≡ not (isNone (octetsOf (now (digits .entry)))) ⌝ }
+    ensures { λ r. ⌜ (r ≡ true → now (out .exit) ≡ contents (octetsOf (now (digits .entry)))) ⌝ }
+{
+    match read_hex(digits, out) {
+        Read::Malformed => false,
+        Read::Octets(_) => true,
+    }
+}
+
+fn no_keys() -> Keys
+    ensures { λ r. ⌜ r .good ≡ false ⌝ }
+{
+    Keys {
+        good: false,
+        key: [0; 16],
+        key_id: 0,
+        own: [0; 6],
+        peer: [0; 6],
+    }
+}
+
+// What line 1 gives.
+pub(crate) fn keys_of(line: &[u8]) -> Keys
+    ensures { λ r. ⌜ r .good ≡ isKeyLine (fields (now (line .entry))) ⌝ }
+    ensures { λ r. ⌜ (r .good ≡ true → Given (fields (now (line .entry))) r) ⌝ }
+{
+    if !is_parted(line) {
+        return no_keys();
+    }
+    if !is_word(&line[0..3], b"key") {
+        return no_keys();
+    }
+    let mut key = [0u8; 16];
+    if !read_all(&line[4..36], &mut key) {
+        return no_keys();
+    }
+    let key_id = digit_of(line[37]);
+    if MOST_KEY_ID < key_id {
+        return no_keys();
+    }
+    let mut own = [0u8; 6];
+    if !read_all(&line[39..51], &mut own) {
+        return no_keys();
+    }
+    let mut peer = [0u8; 6];
+    if !read_all(&line[52..64], &mut peer) {
+        return no_keys();
+    }
+    Keys {
+        good: true,
+        key,
+        key_id,
+        own,
+        peer,
+    }
+}

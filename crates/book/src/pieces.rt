@@ -1,0 +1,173 @@
+// A text in pieces.
+use crate::Book;
+use crate::Reader;
+use crate::Stage;
+use crate::answer::MOST_ANSWER;
+use crate::answer::answer;
+use crate::put::put_text;
+use rules::Receiver;
+use rules::Sender;
+ghost use mathlib.Core.Path.{_≡_};
+ghost use mathlib.Core.List.{[], _++_};
+ghost use Prim.Native.Nat.{_-_, _≤_};
+ghost use lib.ListN.{length, take, drop};
+ghost use Rattle.book.specs.Put.{put};
+ghost use Rattle.book.specs.Text.{unended};
+ghost use Rattle.book.specs.Book.{newBook};
+ghost use Rattle.book.specs.Pieces.{says, cut, held, Gave, Enough};
+
+const LINE_FEED: u8 = 10;
+
+// One octet more than a line may have.
+const HELD: usize = 4801;
+
+// What a piece of text gave: the reader after it, how much of the piece was taken, and how much was written.
+pub struct Fed {
+    pub reader: Reader,
+    pub taken: usize,
+    pub written: usize,
+}
+
+// A reader before line 1.
+pub fn new_reader() -> Reader
+    ensures { λ r. ⌜ r .book ≡ newBook ⌝ }
+    ensures { λ r. ⌜ held r ≡ [] ⌝ }
+{
+    Reader {
+        book: Book {
+            lines: 0,
+            stage: Stage::First,
+            sender: Sender {
+                key: [0; 16],
+                key_id: 0,
+                address: [0; 6],
+                last: 0,
+            },
+            receiver: Receiver {
+                key: [0; 16],
+                key_id: 0,
+                peer: [0; 6],
+                replay: [0; 16],
+                format_errors: 0,
+                replays: 0,
+                decrypt_errors: 0,
+                opened: 0,
+            },
+        },
+        line: [0; 4801],
+        length: 0,
+    }
+}
+
+// Keeps piece[a..e] behind what is kept of the line, as far as there is room, and gives the length of what is kept.
+fn keep(line: &mut [u8], kept: usize, piece: &[u8], a: usize, e: usize) -> usize
+    requires { ⌜ (length (now line) ≡ 4801) × (kept ≤ 4801) × (a ≤ e) × (e ≤ length (now piece)) ⌝ }
+    ensures { λ r. ⌜ r ≤ 4801 ⌝ }
+    ensures { λ r. ⌜ take r (now (line .exit)) ≡ cut (take kept (now (line .entry)) ++ take (e - a) (drop a (now (piece .entry)))) ⌝ }
+{
+    if HELD - kept < e - a {
+        let end = a + (HELD - kept);
+        return put_text(&piece[a..end], line, kept);
+    }
+    put_text(&piece[a..e], line, kept)
+}
+
+// What a piece gave: the book after its lines, how much is kept of the one that has not ended, and as in Fed.
+pub struct Lines {
+    pub book: Book,
+    pub kept: usize,
+    pub taken: usize,
+    pub written: usize,
+}
+
+fn feed_lines(b: Book, kept: usize, line: &mut [u8], piece: &[u8], out: &mut [u8]) -> Lines
+    requires { ⌜ (length (now line) ≡ 4801) × (kept ≤ 4801) ⌝ }
+    ensures { λ r. ⌜ Gave b (take kept (now (line .entry))) (take (r .taken) (now (piece .entry))) (now (out .entry)) (r .book) (take (r .kept) (now (line .exit))) (now (out .exit)) (r .written) ⌝ }
+    ensures { λ r. ⌜ Enough (length (now (piece .entry))) (r .taken) (length (now (out .entry))) (r .written) ⌝ }
+{
+    let mut frame = [0u8; 2400];
+    let mut result = [0u8; 2416];
+    let mut book = b;
+    let mut here = kept;
+    let mut at = 0;
+    let mut written = 0;
+    while at < piece.len() {
+        if out.len() - written < MOST_ANSWER {
+            return Lines {
+                book,
+                kept: here,
+                taken: at,
+                written,
+            };
+        }
+        let end = bytes::scan::find(piece, at, piece.len(), LINE_FEED);
+        here = keep(line, here, piece, at, end);
+        if end == piece.len() {
+            return Lines {
+                book,
+                kept: here,
+                taken: end,
+                written,
+            };
+        }
+        at = end + 1;
+        let turn = answer(book, &line[..here], &mut frame, &mut result, out, written);
+        book = turn.book;
+        written = turn.end;
+        here = 0;
+    }
+    Lines {
+        book,
+        kept: here,
+        taken: at,
+        written,
+    }
+}
+
+// At most what is kept of a line.
+fn kept_of(length: usize) -> usize
+    ensures { λ r. ⌜ (r ≤ 4801) × ((length ≤ 4801 → r ≡ length) × (4801 ≤ length → r ≡ 4801)) ⌝ }
+{
+    if length < HELD { length } else { HELD }
+}
+
+// Takes a piece of text, or as much of it as there is room to answer, and writes the answers to the lines that end in it
+// into the front of out. Room of 4,880 octets is enough to go on.
+pub fn feed(r: Reader, piece: &[u8], out: &mut [u8]) -> Fed
+    ensures { λ f. ⌜ Gave (r .book) (held r) (take (f .taken) (now (piece .entry))) (now (out .entry)) (f .reader .book) (held (f .reader)) (now (out .exit)) (f .written) ⌝ }
+    ensures { λ f. ⌜ Enough (length (now (piece .entry))) (f .taken) (length (now (out .entry))) (f .written) ⌝ }
+{
+    let mut line = r.line;
+    let kept = kept_of(r.length);
+    let b = r.book;
+    let lines = feed_lines(b, kept, &mut line, piece, out);
+    let book = lines.book;
+    Fed {
+        reader: Reader {
+            book,
+            line,
+            length: lines.kept,
+        },
+        taken: lines.taken,
+        written: lines.written,
+    }
+}
+
+// The end of the text: writes the answer to a last line without a line feed into the front of out, and gives its length.
+pub fn finish(r: Reader, out: &mut [u8; 4880]) -> usize
+    ensures { λ n. ⌜ n ≡ length (says (r .book) (unended (held r))) ⌝ }
+    ensures { λ n. ⌜ n ≤ length (now (out .exit)) ⌝ }
+    ensures { λ _. ⌜ now (out .exit) ≡ put 0 (says (r .book) (unended (held r))) (now (out .entry)) ⌝ }
+{
+    let kept = kept_of(r.length);
+    if kept == 0 {
+        return 0;
+    }
+    let mut frame = [0u8; 2400];
+    let mut result = [0u8; 2416];
+    let line = r.line;
+    let b = r.book;
+    let room: &mut [u8] = out;
+    let turn = answer(b, &line[..kept], &mut frame, &mut result, room, 0);
+    turn.end
+}

@@ -1,0 +1,423 @@
+//! The frame rules: a sender that seals plain 802.11 data frames and a receiver that opens them.
+
+use crate::ccm::Ccm;
+
+/// The greatest packet number.
+pub const MAX_NUMBER: u64 = (1 << 48) - 1;
+/// The greatest body of a plain frame.
+pub const MAX_BODY: usize = 2_296;
+
+const MIN_HEADER: usize = 24;
+const MAX_HEADER: usize = 32;
+const CCMP_HEADER: usize = 8;
+const MIC: usize = 8;
+/// What sealing adds to a frame.
+const ADDED: usize = CCMP_HEADER + MIC;
+
+/// Bit b14, in the second octet of Frame Control.
+const PROTECTED: u8 = 0x40;
+/// In the key octet of the CCMP header.
+const EXT_IV: u8 = 0x20;
+
+#[derive(Clone, Debug, Default, PartialEq, Eq)]
+pub struct Sender {
+    pub key: [u8; 16],
+    pub key_id: u8,
+    pub address: [u8; 6],
+    pub last_number: u64,
+}
+
+#[derive(Clone, Debug, Default, PartialEq, Eq)]
+pub struct Receiver {
+    pub key: [u8; 16],
+    pub key_id: u8,
+    pub peer: [u8; 6],
+    /// One for each priority.
+    pub replay_counters: [u64; 16],
+    pub format_errors: u32,
+    pub replays: u32,
+    pub decrypt_errors: u32,
+    pub opened: u32,
+}
+
+#[derive(Clone, Copy, Debug, Default, PartialEq, Eq)]
+pub struct Done {
+    pub number: u64,
+    pub priority: u8,
+    pub written: usize,
+}
+
+/// Why a call is refused; each has its answer number.
+#[derive(Clone, Copy, Debug, PartialEq, Eq)]
+pub enum Refusal {
+    Record = 1,
+    Short = 2,
+    Kind = 3,
+    Mark = 4,
+    Body = 5,
+    Room = 6,
+    Address = 7,
+    Extended = 8,
+    KeyId = 9,
+    Replay = 10,
+    Integrity = 11,
+    Spent = 12,
+}
+
+pub type Answer = Result<Done, Refusal>;
+
+fn require(holds: bool, otherwise: Refusal) -> Result<(), Refusal> {
+    holds.then_some(()).ok_or(otherwise)
+}
+
+fn has_fourth_address(frame: &[u8]) -> bool {
+    frame[1] & 0x03 == 0x03
+}
+
+fn has_qos(frame: &[u8]) -> bool {
+    frame[0] & 0x80 != 0
+}
+
+/// The header's length by Frame Control, the first two octets.
+pub fn header_length(frame: &[u8]) -> usize {
+    MIN_HEADER + if has_fourth_address(frame) { 6 } else { 0 } + if has_qos(frame) { 2 } else { 0 }
+}
+
+/// A whole header.
+struct Header<'a>(&'a [u8]);
+
+impl<'a> Header<'a> {
+    /// The header and what follows it: tests 2, 3, 4 and 2 again.
+    fn split(frame: &'a [u8], protected: bool) -> Result<(Self, &'a [u8]), Refusal> {
+        require(frame.len() >= MIN_HEADER, Refusal::Short)?;
+        // Version 0, type 2 and not "no data".
+        require(frame[0] & 0x4f == 0x08, Refusal::Kind)?;
+        require((frame[1] & PROTECTED != 0) == protected, Refusal::Mark)?;
+        let (header, rest) = frame.split_at_checked(header_length(frame)).ok_or(Refusal::Short)?;
+        Ok((Header(header), rest))
+    }
+
+    /// A2, the address of the frame's sender.
+    fn transmitter(&self) -> &[u8] {
+        &self.0[10..16]
+    }
+
+    /// QoS Control is the header's last two octets.
+    fn priority(&self) -> u8 {
+        if has_qos(self.0) {
+            self.0[self.0.len() - 2] & 0x0f
+        } else {
+            0
+        }
+    }
+
+    fn nonce(&self, number: u64) -> [u8; 13] {
+        let mut nonce = [0; 13];
+        nonce[0] = self.priority();
+        nonce[1..7].copy_from_slice(self.transmitter());
+        nonce[7..].copy_from_slice(&number.to_be_bytes()[2..]);
+        nonce
+    }
+
+    /// In the front of the array, with its length: the header without Duration, and without the bits that may change on the way.
+    fn authenticated_data(&self) -> ([u8; MAX_HEADER - 2], usize) {
+        let (header, length) = (self.0, self.0.len() - 2);
+        let mut data = [0; MAX_HEADER - 2];
+        data[0] = header[0] & 0x8f;
+        data[1] = header[1] & 0xc7 | PROTECTED;
+        data[2..20].copy_from_slice(&header[4..22]);
+        data[20] = header[22] & 0x0f;
+        data[22..length].copy_from_slice(&header[24..]);
+        if has_qos(header) {
+            data[length - 2] &= 0x0f;
+            data[length - 1] = 0;
+        }
+        (data, length)
+    }
+}
+
+fn ccmp_header(number: u64, key_id: u8) -> [u8; CCMP_HEADER] {
+    let [pn0, pn1, pn2, pn3, pn4, pn5, ..] = number.to_le_bytes();
+    [pn0, pn1, 0, EXT_IV | key_id << 6, pn2, pn3, pn4, pn5]
+}
+
+fn number_in(ccmp_header: &[u8]) -> u64 {
+    let octet = |at: usize| u64::from(ccmp_header[at]);
+    octet(0) | octet(1) << 8 | octet(4) << 16 | octet(5) << 24 | octet(6) << 32 | octet(7) << 40
+}
+
+impl Sender {
+    pub fn fresh(key: [u8; 16], key_id: u8, address: [u8; 6]) -> (Answer, Self) {
+        if key_id > 3 {
+            return (Err(Refusal::Record), Self::default());
+        }
+        (Ok(Done::default()), Sender { key, key_id, address, last_number: 0 })
+    }
+
+    fn is_sound(&self) -> bool {
+        self.key_id <= 3 && self.last_number <= MAX_NUMBER
+    }
+
+    /// Writes the sealed frame to the front of `out`.
+    pub fn seal(&mut self, frame: &[u8], out: &mut [u8]) -> Answer {
+        require(self.is_sound(), Refusal::Record)?;
+        let (header, body) = Header::split(frame, false)?;
+        require((1..=MAX_BODY).contains(&body.len()), Refusal::Body)?;
+        let written = frame.len() + ADDED;
+        require(out.len() >= written, Refusal::Room)?;
+        require(header.transmitter() == self.address, Refusal::Address)?;
+        require(self.last_number < MAX_NUMBER, Refusal::Spent)?;
+
+        let number = self.last_number + 1;
+        let (front, text) = out.split_at_mut(header.0.len() + CCMP_HEADER);
+        front[..header.0.len()].copy_from_slice(header.0);
+        front[1] |= PROTECTED;
+        front[header.0.len()..].copy_from_slice(&ccmp_header(number, self.key_id));
+        let (data, length) = header.authenticated_data();
+        Ccm::new(&self.key).seal(&header.nonce(number), &data[..length], body, text).expect("lengths that CCM takes");
+        self.last_number = number;
+        Ok(Done { number, priority: header.priority(), written })
+    }
+}
+
+impl Receiver {
+    pub fn fresh(key: [u8; 16], key_id: u8, peer: [u8; 6]) -> (Answer, Self) {
+        if key_id > 3 {
+            return (Err(Refusal::Record), Self::default());
+        }
+        (Ok(Done::default()), Receiver { key, key_id, peer, ..Self::default() })
+    }
+
+    fn is_sound(&self) -> bool {
+        self.key_id <= 3 && self.replay_counters.iter().all(|&counter| counter <= MAX_NUMBER)
+    }
+
+    /// Writes the plain frame to the front of `out`.
+    pub fn open(&mut self, frame: &[u8], out: &mut [u8]) -> Answer {
+        let answer = self.opened(frame, out);
+        self.record(answer);
+        answer
+    }
+
+    fn opened(&self, frame: &[u8], out: &mut [u8]) -> Answer {
+        require(self.is_sound(), Refusal::Record)?;
+        let (header, rest) = Header::split(frame, true)?;
+        require((1 + ADDED..=MAX_BODY + ADDED).contains(&rest.len()), Refusal::Body)?;
+        let written = frame.len() - ADDED;
+        require(out.len() >= written, Refusal::Room)?;
+        require(header.transmitter() == self.peer, Refusal::Address)?;
+        let (ccmp_header, text) = rest.split_at(CCMP_HEADER);
+        let (key_octet, number, priority) = (ccmp_header[3], number_in(ccmp_header), header.priority());
+        require(key_octet & EXT_IV != 0, Refusal::Extended)?;
+        require(key_octet >> 6 == self.key_id, Refusal::KeyId)?;
+        require(number > self.replay_counters[usize::from(priority)], Refusal::Replay)?;
+
+        // Apart from `out`, which a refusal leaves as it was: CCM clears the room that it was lent where the MIC is wrong.
+        let mut body = [0; MAX_BODY];
+        let (data, length) = header.authenticated_data();
+        let body_length = Ccm::new(&self.key).open(&header.nonce(number), &data[..length], text, &mut body).ok_or(Refusal::Integrity)?;
+        let (front, room) = out.split_at_mut(header.0.len());
+        front.copy_from_slice(header.0);
+        front[1] &= !PROTECTED;
+        room[..body_length].copy_from_slice(&body[..body_length]);
+        Ok(Done { number, priority, written })
+    }
+
+    /// Moves the replay counter and the counts by an answer.
+    fn record(&mut self, answer: Answer) {
+        let count = match answer {
+            Ok(done) => {
+                self.replay_counters[usize::from(done.priority)] = done.number;
+                &mut self.opened
+            }
+            Err(Refusal::Record | Refusal::Room) => return,
+            Err(Refusal::Replay) => &mut self.replays,
+            Err(Refusal::Integrity) => &mut self.decrypt_errors,
+            Err(_) => &mut self.format_errors,
+        };
+        *count = count.wrapping_add(1);
+    }
+}
+
+#[cfg(test)]
+mod tests {
+    use super::*;
+
+    const KEY: [u8; 16] = [7; 16];
+    const ADDRESS: [u8; 6] = [2, 0, 0, 0, 0, 1];
+    const ROOM: usize = MAX_HEADER + MAX_BODY + ADDED + 1;
+
+    fn sender() -> Sender {
+        Sender::fresh(KEY, 2, ADDRESS).1
+    }
+
+    fn receiver() -> Receiver {
+        Receiver::fresh(KEY, 2, ADDRESS).1
+    }
+
+    /// Of this Frame Control, from ADDRESS, the other header octets 1 upward, and a body of zeros.
+    fn plain(control: [u8; 2], body: usize) -> Vec<u8> {
+        let mut frame: Vec<u8> = (0..header_length(&control) as u8).collect();
+        frame[..2].copy_from_slice(&control);
+        frame[10..16].copy_from_slice(&ADDRESS);
+        frame.resize(frame.len() + body, 0);
+        frame
+    }
+
+    fn sealed(sender: &mut Sender, frame: &[u8]) -> Vec<u8> {
+        let mut out = vec![0; frame.len() + ADDED];
+        assert_eq!(sender.seal(frame, &mut out).map(|done| done.written), Ok(out.len()));
+        out
+    }
+
+    fn refused(control: [u8; 2]) -> Option<Refusal> {
+        sender().seal(&plain(control, 1), &mut [0; ROOM]).err()
+    }
+
+    fn octets(digits: &str) -> Vec<u8> {
+        digits.split_whitespace().map(|pair| u8::from_str_radix(pair, 16).unwrap()).collect()
+    }
+
+    #[test]
+    fn headers() {
+        let examples = [([0x08, 0x00], 24, [0x08, 0x40]), ([0x88, 0x03], 32, [0x88, 0x43]), ([0x38, 0x3a], 24, [0x08, 0x42])];
+        for (control, length, authenticated) in examples {
+            let frame = plain(control, 0);
+            let (data, data_length) = Header(&frame).authenticated_data();
+            assert_eq!((frame.len(), data_length, &data[..2]), (length, length - 2, &authenticated[..]));
+        }
+        assert_eq!([refused([0x48, 0x00]), refused([0xb0, 0x00])], [Some(Refusal::Kind); 2]);
+        assert_eq!([refused([0x38, 0x3a]), refused([0x08, 0x40]), refused([0x09, 0x40])], [None, Some(Refusal::Mark), Some(Refusal::Kind)]);
+    }
+
+    #[test]
+    fn muted_fields() {
+        let mut frame = plain([0x88, 0x03], 0);
+        frame[22..24].copy_from_slice(&[0x35, 0xa1]);
+        frame[30..32].copy_from_slice(&[0xf6, 0x12]);
+        let header = Header(&frame);
+        let (data, _) = header.authenticated_data();
+        assert_eq!((&data[20..22], &data[22..28], &data[28..]), (&[0x05, 0][..], &frame[24..30], &[0x06, 0][..]));
+        assert_eq!(header.priority(), 6);
+        assert_eq!(header.nonce(0x010203040506).to_vec(), octets("06 02 00 00 00 00 01 01 02 03 04 05 06"));
+    }
+
+    #[test]
+    fn packet_number() {
+        let header = ccmp_header(0x010203040506, 2);
+        assert_eq!(header.to_vec(), octets("06 05 00 a0 04 03 02 01"));
+        assert_eq!(number_in(&header), 0x010203040506);
+    }
+
+    // IEEE 802.11's example of CCMP.
+    #[test]
+    fn standard_vector() {
+        let key: [u8; 16] = octets("c9 7c 1f 67 ce 37 11 85 51 4a 8a 19 f2 bd d5 2f").try_into().unwrap();
+        let address = [0x50, 0x30, 0xf1, 0x84, 0x44, 0x08];
+        let header = "c3 2c 0f d2 e1 28 a5 7c 50 30 f1 84 44 08 ab ae a5 b8 fc ba 80 33";
+        let frame = octets(&format!("08 08 {header} f8 ba 1a 55 d0 2f 85 ae 96 7b b6 2f b6 cd a8 eb 7e 78 a0 50"));
+        let text = "f3 d0 a2 fe 9a 3d bf 23 42 a6 43 e4 32 46 e8 0c 3c 04 d0 19 78 45 ce 0b 16 f9 76 23";
+        let expected = octets(&format!("08 48 {header} 0c e7 00 20 76 97 03 b5 {text}"));
+        let mut sender = Sender { key, key_id: 0, address, last_number: 0xb503_9776_e70b };
+        assert_eq!(sealed(&mut sender, &frame), expected);
+        let mut out = [0; 44];
+        let done = Done { number: 0xb503_9776_e70c, priority: 0, written: 44 };
+        assert_eq!(Receiver::fresh(key, 0, address).1.open(&expected, &mut out), Ok(done));
+        assert_eq!(out[..], frame);
+    }
+
+    #[test]
+    fn body_limits() {
+        for control in [[0x08, 0], [0x88, 0], [0x08, 3], [0x88, 3]] {
+            for (body, refusal) in [(0, Some(Refusal::Body)), (1, None), (2_295, None), (2_296, None), (2_297, Some(Refusal::Body))] {
+                assert_eq!(sender().seal(&plain(control, body), &mut [0; ROOM]).err(), refusal);
+            }
+            for (rest, refusal) in [(16, Refusal::Body), (17, Refusal::Extended), (2_312, Refusal::Extended), (2_313, Refusal::Body)] {
+                let frame = plain([control[0], control[1] | PROTECTED], rest);
+                assert_eq!(receiver().open(&frame, &mut [0; ROOM]), Err(refusal));
+            }
+        }
+    }
+
+    #[test]
+    fn short_frames() {
+        let frame = plain([0x88, 0x03], 1);
+        let mut answers = (0..=33).map(|length| sender().seal(&frame[..length], &mut [0; ROOM]).err());
+        assert!(answers.by_ref().take(32).all(|answer| answer == Some(Refusal::Short)));
+        assert_eq!(answers.collect::<Vec<_>>(), [Some(Refusal::Body), None]);
+    }
+
+    #[test]
+    fn room_and_order() {
+        let mut sender = sender();
+        let mut stranger = plain([0x08, 0], 1);
+        stranger[15] = 9;
+        assert_eq!(sender.seal(&plain([0x08, 0], 1), &mut [0; 40]), Err(Refusal::Room));
+        assert_eq!(sender.seal(&stranger, &mut [0; 40]), Err(Refusal::Room));
+        assert_eq!(sender.seal(&plain([0x08, 0], 1), &mut [0; 41]), Ok(Done { number: 1, priority: 0, written: 41 }));
+        sender.last_number = MAX_NUMBER - 1;
+        assert_eq!(sender.seal(&plain([0x08, 0], 1), &mut [0; 41]).map(|done| done.number), Ok(MAX_NUMBER));
+        assert_eq!(sender.seal(&stranger, &mut [0; 41]), Err(Refusal::Address));
+        assert_eq!(sender.seal(&plain([0x08, 0], 1), &mut [0; 41]), Err(Refusal::Spent));
+        sender.last_number += 1;
+        assert_eq!(sender.seal(&[], &mut []), Err(Refusal::Record));
+    }
+
+    #[test]
+    fn replays() {
+        let (mut sender, mut receiver) = (sender(), receiver());
+        let mut frame = plain([0x88, 0], 5);
+        (receiver.replay_counters[8], sender.last_number) = (7, 6);
+        frame[24] = 8;
+        let (seven, eight) = (sealed(&mut sender, &frame), sealed(&mut sender, &frame));
+        let mut zero = seven.clone();
+        zero[26] = 0;
+        let answers = [&seven, &eight, &eight, &seven, &zero].map(|frame| receiver.open(frame, &mut [0; 31]).err());
+        assert_eq!(answers, [Some(Refusal::Replay), None, Some(Refusal::Replay), Some(Refusal::Replay), Some(Refusal::Replay)]);
+        zero[24] = 0;
+        assert_eq!(receiver.open(&zero, &mut [0; 31]), Err(Refusal::Replay));
+        assert_eq!((receiver.replays, receiver.opened, receiver.replay_counters.iter().sum()), (5, 1, 8));
+    }
+
+    #[test]
+    fn refusals_write_nothing_and_count() {
+        let (mut receiver, mut out) = (receiver(), [0xaa; 40]);
+        let good = sealed(&mut sender(), &plain([0x88, 0x03], 3));
+        let changed = |at: usize, bits: u8| {
+            let mut frame = good.clone();
+            frame[at] ^= bits;
+            frame
+        };
+        for (frame, refusal) in [
+            (changed(0, 0x01), Refusal::Kind),
+            (changed(1, PROTECTED), Refusal::Mark),
+            (changed(10, 0x80), Refusal::Address),
+            (changed(35, EXT_IV), Refusal::Extended),
+            (changed(35, 0x40), Refusal::KeyId),
+            (changed(33, 0x01), Refusal::Integrity),
+            (changed(50, 0x80), Refusal::Integrity),
+        ] {
+            assert_eq!(receiver.open(&frame, &mut out), Err(refusal));
+        }
+        assert_eq!(receiver.open(&good, &mut out[..34]), Err(Refusal::Room));
+        assert_eq!((out, receiver.replay_counters), ([0xaa; 40], [0; 16]));
+        receiver.opened = u32::MAX;
+        // Octet 2 of the CCMP header, the low bits of the key octet, and Duration are free.
+        let mut frame = changed(34, 0xff);
+        frame[35] ^= 0x1f;
+        frame[2] ^= 0xff;
+        assert_eq!(receiver.open(&frame, &mut out), Ok(Done { number: 1, priority: 14, written: 35 }));
+        assert_eq!((&out[2..3], &out[32..]), (&[0xfd][..], &[0, 0, 0, 0xaa, 0xaa, 0xaa, 0xaa, 0xaa][..]));
+        assert_eq!((receiver.format_errors, receiver.replays, receiver.decrypt_errors, receiver.opened), (5, 0, 2, 0));
+    }
+
+    #[test]
+    fn fresh_records() {
+        assert_eq!(Sender::fresh(KEY, 4, ADDRESS), (Err(Refusal::Record), Sender::default()));
+        assert_eq!(Receiver::fresh(KEY, 4, ADDRESS), (Err(Refusal::Record), Receiver::default()));
+        let mut unsound = receiver();
+        unsound.replay_counters[15] = MAX_NUMBER + 1;
+        assert_eq!(unsound.open(&[], &mut []), Err(Refusal::Record));
+        assert_eq!(unsound.format_errors, 0);
+    }
+}
