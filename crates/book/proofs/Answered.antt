@@ -26,8 +26,8 @@ use Rattle.book.specs.Put.{put}
 use Rattle.book.specs.Hex.{hexOf}
 use Rattle.book.specs.Decimal.{decimal}
 use Rattle.book.specs.Text.{tab, lineFeed}
-use Rattle.book.specs.Line.{fields, isKeyLine, Asked, malformed, sealing, opening, Given}
-use Rattle.book.specs.Book.{lineNumber, roomFor, shown, answerLine, answerText, octetsWritten, badLine, answerTo, afterAsked, begun, saysAt, nextAt, bookSays, bookNext}
+use Rattle.book.specs.Line.{fields, isKeyLine, asked, Asked, malformed, sealing, opening, Given}
+use Rattle.book.specs.Book.{lineNumber, roomFor, shown, answerLine, answerText, octetsWritten, badLine, sealLine, openLine, answerTo, afterAsked, begun, saysAt, nextAt, bookSays, bookNext}
 
 pub put-nothing : (at : ℕ) (o : List ℕ) → put at [] o ≡ o
 put-nothing at o = rw (add-zero at) (take-append-drop at o)
@@ -89,50 +89,56 @@ module _ (f room : List ℕ) where
     pub opens-alike : (r : Receiver) → openAnswer r f room ≡ openAnswer r f (roomFor f)
     opens-alike r = open-room f room (roomFor f) r (omega arith) (omega (arith, enough))
 
-    module _ (n : ℕ) (a : Answer) (result : List ℕ) where
-      -- a line that asks to seal, and one that asks to open
-      pub seal-line : (b : Book) → n ≡ lineNumber b → told a ≡ told (sealAnswer (b .sender) f room) → result ≡ sealOutput (b .sender) f room
-          → answerText n (9 ∷ 115 ∷ 101 ∷ 97 ∷ 108 ∷ 9 ∷ []) a result ≡ answerTo b (sealing f)
-      unfolding answerTo answerLine
-      seal-line b next t o =
-          line-alike (sealAnswer (b .sender) f) (sealOutput (b .sender) f) (λ m. sealedFrame (b .sender) m f) (written-is (b .sender) f) room (roomFor f) (seals-alike (b .sender)) n (9 ∷ 115 ∷ 101 ∷ 97 ∷ 108 ∷ 9 ∷ []) a result t o
-          ∙ rw next
+    -- the line that sealing writes, and the one that opening writes
+    pub seal-line : (n : ℕ) (s : Sender) (a : Answer) (result : List ℕ) → told a ≡ told (sealAnswer s f room) → result ≡ sealOutput s f room
+        → answerText n (9 ∷ 115 ∷ 101 ∷ 97 ∷ 108 ∷ 9 ∷ []) a result ≡ sealLine n s f
+    unfolding sealLine answerLine
+    seal-line n s a result t o =
+        line-alike (sealAnswer s f) (sealOutput s f) (λ m. sealedFrame s m f) (written-is s f) room (roomFor f) (seals-alike s) n (9 ∷ 115 ∷ 101 ∷ 97 ∷ 108 ∷ 9 ∷ []) a result t o
 
-      pub open-line : (b : Book) → n ≡ lineNumber b → told a ≡ told (openAnswer (b .receiver) f room) → result ≡ openOutput (b .receiver) f room
-          → answerText n (9 ∷ 111 ∷ 112 ∷ 101 ∷ 110 ∷ 9 ∷ []) a result ≡ answerTo b (opening f)
-      unfolding answerTo answerLine
-      open-line b next t o =
-          line-alike (openAnswer (b .receiver) f) (openOutput (b .receiver) f) (λ m. openedFrame (b .receiver) f) (opened-is (b .receiver) f) room (roomFor f) (opens-alike (b .receiver)) n (9 ∷ 111 ∷ 112 ∷ 101 ∷ 110 ∷ 9 ∷ []) a result t o
-          ∙ rw next
+    pub open-line : (n : ℕ) (r : Receiver) (a : Answer) (result : List ℕ) → told a ≡ told (openAnswer r f room) → result ≡ openOutput r f room
+        → answerText n (9 ∷ 111 ∷ 112 ∷ 101 ∷ 110 ∷ 9 ∷ []) a result ≡ openLine n r f
+    unfolding openLine answerLine
+    open-line n r a result t o =
+        line-alike (openAnswer r f) (openOutput r f) (λ m. openedFrame r f) (opened-is r f) room (roomFor f) (opens-alike r) n (9 ∷ 111 ∷ 112 ∷ 101 ∷ 110 ∷ 9 ∷ []) a result t o
 
-    module _ (b : Book) (n : ℕ) (next : n ≡ lineNumber b) where
-      pub sealed-book : (s : Sender) → s ≡ senderNext (b .sender) (sealAnswer (b .sender) f room)
-          → record { lines = n; stage = Going; sender = s; receiver = b .receiver } ≡ afterAsked b (sealing f)
-      unfolding afterAsked
-      sealed-book s e = rw (next, e, seals-alike (b .sender))
-
-      pub opened-book : (r : Receiver) → r ≡ receiverNext (b .receiver) (openAnswer (b .receiver) f room)
-          → record { lines = n; stage = Going; sender = b .sender; receiver = r } ≡ afterAsked b (opening f)
-      unfolding afterAsked
-      opened-book r e = rw (next, e, opens-alike (b .receiver))
-
--- what is said of a request is said of what the line asks
-pub as-asked : (b book : Book) (x y : Asked) (at end : ℕ) (o out : List ℕ) → x ≡ y
-    → (book ≡ afterAsked b x) × ((end ≡ at + length (answerTo b x)) × (out ≡ put at (answerTo b x) o))
-    → (book ≡ afterAsked b y) × ((end ≡ at + length (answerTo b y)) × (out ≡ put at (answerTo b y) o))
-as-asked b book x y at end o out e h = rw (sym e) h
-
-pub bad-line : (b : Book) (n at end : ℕ) (o out : List ℕ) → n ≡ lineNumber b → end ≡ at + length (badLine n) → out ≡ put at (badLine n) o
-    → (record { lines = n; stage = Going; sender = b .sender; receiver = b .receiver } ≡ afterAsked b malformed)
-    × ((end ≡ at + length (answerTo b malformed)) × (out ≡ put at (answerTo b malformed) o))
-unfolding afterAsked answerTo
-bad-line b n at end o out e q r = rw (sym e) (refl, (q, r))
+-- what a line leaves: the book after it, and its answer at a place of the room
+abbrev pub Left : Book → List ℕ → ℕ → List ℕ → Book → ℕ → List ℕ → Type 0
+Left b line at o book end out = (book ≡ bookNext b line) × ((end ≡ at + length (bookSays b line)) × (out ≡ put at (bookSays b line) o))
 
 -- what is said at a stage is said of the book
 pub at-stage : (b book : Book) (stage : Stage) (line : List ℕ) (at end : ℕ) (o out : List ℕ) → b .stage ≡ stage
     → (book ≡ nextAt stage b (fields line)) × ((end ≡ at + length (saysAt stage b (fields line))) × (out ≡ put at (saysAt stage b (fields line)) o))
-    → (book ≡ bookNext b line) × ((end ≡ at + length (bookSays b line)) × (out ≡ put at (bookSays b line) o))
+    → Left b line at o book end out
 unfolding bookNext bookSays
 at-stage b book stage line at end o out e h =
     (h .0 ∙ ap (λ (s : Stage). nextAt s b (fields line)) (sym e),
     (h .1 .0 ∙ ap (λ (s : Stage). at + length (saysAt s b (fields line))) (sym e), h .1 .1 ∙ ap (λ (s : Stage). put at (saysAt s b (fields line)) o) (sym e)))
+
+pub nothing-left : (b : Book) (line : List ℕ) (at : ℕ) (o : List ℕ) → b .stage ≡ Ended → Left b line at o b at o
+nothing-left b line at o e = at-stage b b Ended line at at o o e (refl, (sym (add-zero at), sym (put-nothing at o)))
+
+-- a line after a good line 1 that asks x
+module _ (b : Book) (line : List ℕ) (going : b .stage ≡ Going) (x : Asked) (is : x ≡ asked (fields line)) (at : ℕ) (o : List ℕ) where
+  as-asked : (book : Book) (end : ℕ) (out : List ℕ) → book ≡ afterAsked b x → end ≡ at + length (answerTo b x) → out ≡ put at (answerTo b x) o → Left b line at o book end out
+  as-asked book end out be ee oe =
+      at-stage b book Going line at end o out going
+      (be ∙ ap (afterAsked b) is, (ee ∙ ap (λ (y : Asked). at + length (answerTo b y)) is, oe ∙ ap (λ (y : Asked). put at (answerTo b y) o) is))
+
+module _ (b : Book) (line : List ℕ) (going : b .stage ≡ Going) (at : ℕ) (o : List ℕ) (n : ℕ) (next : n ≡ lineNumber b) (end : ℕ) (out : List ℕ) where
+  pub bad-left : malformed ≡ asked (fields line) → end ≡ at + length (badLine n) → out ≡ put at (badLine n) o
+      → Left b line at o (record { lines = n; stage = b .stage; sender = b .sender; receiver = b .receiver }) end out
+  unfolding afterAsked answerTo
+  bad-left is ee oe = as-asked b line going malformed is at o _ end out (rw (next, going)) (rw next at ee) (rw next at oe)
+
+  pub sealed-left : (f : List ℕ) → sealing f ≡ asked (fields line) → (s : Sender) → s ≡ senderNext (b .sender) (sealAnswer (b .sender) f (roomFor f))
+      → end ≡ at + length (sealLine n (b .sender) f) → out ≡ put at (sealLine n (b .sender) f) o
+      → Left b line at o (record { lines = n; stage = b .stage; sender = s; receiver = b .receiver }) end out
+  unfolding afterAsked answerTo
+  sealed-left f is s se ee oe = as-asked b line going (sealing f) is at o _ end out (rw (next, going, se)) (rw next at ee) (rw next at oe)
+
+  pub opened-left : (f : List ℕ) → opening f ≡ asked (fields line) → (r : Receiver) → r ≡ receiverNext (b .receiver) (openAnswer (b .receiver) f (roomFor f))
+      → end ≡ at + length (openLine n (b .receiver) f) → out ≡ put at (openLine n (b .receiver) f) o
+      → Left b line at o (record { lines = n; stage = b .stage; sender = b .sender; receiver = r }) end out
+  unfolding afterAsked answerTo
+  opened-left f is r re ee oe = as-asked b line going (opening f) is at o _ end out (rw (next, going, re)) (rw next at ee) (rw next at oe)

@@ -2,7 +2,7 @@
 use mathlib.Core.Path.{_≡_, refl, sym, ap, ap₂, _∙_}
 use mathlib.Core.Bool.{Bool, true, false}
 use mathlib.Core.Logic.{_⊎_, inl, inr, ⊎-elim}
-use mathlib.Core.List.{List, [], _∷_, _++_, append-nil}
+use mathlib.Core.List.{List, [], _∷_, _++_}
 use Prim.Native.Nat.{ℕ, suc, _+_, _≤_, _<_}
 use native.Mathlib.Omega.{arith}
 use borrow.Author.Tests.{leb-true, leb-false, lt-ltb}
@@ -82,11 +82,6 @@ kept-held line n k z h =
     (λ l. ap (λ (i : ℕ). take i line) (h .0 l))
     (λ l. take-all k line (omega (arith, h .1 (omega arith))) ∙ sym (take-all n line (omega arith)))
     (le-or n 4801)
-
-pub last-said : (b : Book) (l : List ℕ) → (length l ≡ 0 → ⊥) → says b (unended l) ≡ bookSays b l
-unfolding says
-last-said b [] h = absurd (h refl)
-last-said b (x ∷ l) h = append-nil (bookSays b (x ∷ l))
 
 pub none-said : (b : Book) (l : List ℕ) → length l ≡ 0 → says b (unended l) ≡ []
 unfolding says

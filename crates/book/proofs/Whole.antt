@@ -95,6 +95,12 @@ another b p t b₁ q u be qe =
     ∙ sym (ap (after b) (ended-append p t u) ∙ after-append (ended p t) (ended (left p t) u) b),
     left-cut q (left p t) e u ∙ ap cut (sym (left-append p t u)))
 
+-- a line feed ends a line as the end of the text does, unless the line is empty
+pub line-feed : (b : Book) (p : List ℕ) → (length p ≡ 0 → ⊥) → says b (ended p (lineFeed ∷ [])) ≡ says b (unended p)
+unfolding parts
+line-feed b [] h = absurd (h refl)
+line-feed b (x ∷ p) h = ap (λ (l : List ℕ). says b ((x ∷ l) ∷ [])) (append-nil p)
+
 last-cut : (b : Book) (p q : List ℕ) → cut p ≡ cut q → says b (unended p) ≡ says b (unended q)
 unfolding says
 last-cut b [] [] e = refl

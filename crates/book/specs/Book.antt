@@ -58,11 +58,18 @@ abbrev pub octetsWritten : Answer → ℕ
 octetsWritten (Done n p k) = k
 octetsWritten (Refused a) = 0
 
+-- the answers to a frame sealed, and to one opened
+unfoldable pub sealLine : ℕ → Sender → List ℕ → List ℕ
+sealLine n s f = answerLine n sealWord (sealAnswer s f (roomFor f)) (sealOutput s f (roomFor f))
+
+unfoldable pub openLine : ℕ → Receiver → List ℕ → List ℕ
+openLine n r f = answerLine n openWord (openAnswer r f (roomFor f)) (openOutput r f (roomFor f))
+
 -- a later line is answered by sealing or opening its frame; a malformed one changes nothing
 unfoldable pub answerTo : Book → Asked → List ℕ
 answerTo b malformed = badLine (lineNumber b)
-answerTo b (sealing f) = answerLine (lineNumber b) sealWord (sealAnswer (b .sender) f (roomFor f)) (sealOutput (b .sender) f (roomFor f))
-answerTo b (opening f) = answerLine (lineNumber b) openWord (openAnswer (b .receiver) f (roomFor f)) (openOutput (b .receiver) f (roomFor f))
+answerTo b (sealing f) = sealLine (lineNumber b) (b .sender) f
+answerTo b (opening f) = openLine (lineNumber b) (b .receiver) f
 
 unfoldable pub afterAsked : Book → Asked → Book
 afterAsked b malformed = turned b Going (b .sender) (b .receiver)

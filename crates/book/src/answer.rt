@@ -3,28 +3,42 @@ use crate::Book;
 use crate::Stage;
 use crate::decimal::put_decimal;
 use crate::hex::put_hex;
-use crate::line::Request;
 use crate::line::keys_of;
-use crate::line::request_of;
 use crate::put::put_text;
 use rules::Answer;
+use rules::Receiver;
+use rules::Sender;
 ghost use mathlib.Core.Path.{_≡_};
 ghost use Prim.Native.Nat.{_+_, _≤_};
 ghost use lib.ListN.{length};
+ghost use Rattle.rules.specs.Records.{senderNext, receiverNext};
+ghost use Rattle.rules.specs.Sealing.{sealAnswer};
+ghost use Rattle.rules.specs.Opening.{openAnswer};
 ghost use Rattle.book.specs.Put.{put};
-ghost use Rattle.book.specs.Line.{fields, sealing, opening, asked};
-ghost use Rattle.book.specs.Book.{badLine, answerText, octetsWritten, answerTo, afterAsked, begun, saysAt, bookSays, bookNext};
+ghost use Rattle.book.specs.Line.{fields};
+ghost use Rattle.book.specs.Book.{roomFor, badLine, answerText, octetsWritten, sealLine, openLine, begun, saysAt};
 
 // The octets of an answer at most.
 pub(crate) const MOST_ANSWER: usize = 4880;
 
-// The book after a line, and the place after what it wrote.
+// The sender, the receiver or the book after a line, and the place after what was written.
+pub struct SealTurn {
+    pub sender: Sender,
+    pub end: usize,
+}
+
+pub struct OpenTurn {
+    pub receiver: Receiver,
+    pub end: usize,
+}
+
 pub struct Turn {
     pub book: Book,
     pub end: usize,
 }
 
-fn put_bad(n: u64, out: &mut [u8], at: usize) -> usize
+// The answer to a bad line.
+pub(crate) fn put_bad(n: u64, out: &mut [u8], at: usize) -> usize
     requires { ⌜ at + 4880 ≤ length (now out) ⌝ }
     ensures { λ r. ⌜ r ≡ at + length (badLine n) ⌝ }
     ensures { λ _. ⌜ now (out .exit) ≡ put at (badLine n) (now (out .entry)) ⌝ }
@@ -55,58 +69,36 @@ fn put_answer(n: u64, word: &[u8], a: Answer, result: &[u8], out: &mut [u8], at:
     }
 }
 
-// A line that asks to seal a frame.
-fn seal_line(b: Book, frame: &[u8], result: &mut [u8], out: &mut [u8], at: usize) -> Turn
+// The answer to a line that asks to seal a frame, and the sender after it. The result is lent for the work.
+pub(crate) fn seal_line(n: u64, s: Sender, frame: &[u8], result: &mut [u8], out: &mut [u8], at: usize) -> SealTurn
     requires { ⌜ (at + 4880 ≤ length (now out)) × (length (now frame) ≤ 2400) × (length (now result) ≡ 2416) ⌝ }
-    ensures { λ r. ⌜ r .book ≡ afterAsked b (sealing (now (frame .entry))) ⌝ }
-    ensures { λ r. ⌜ r .end ≡ at + length (answerTo b (sealing (now (frame .entry)))) ⌝ }
-    ensures { λ _. ⌜ now (out .exit) ≡ put at (answerTo b (sealing (now (frame .entry)))) (now (out .entry)) ⌝ }
+    ensures { λ r. ⌜ r .sender ≡ senderNext s (sealAnswer s (now (frame .entry)) (roomFor (now (frame .entry)))) ⌝ }
+    ensures { λ r. ⌜ r .end ≡ at + length (sealLine n s (now (frame .entry))) ⌝ }
+    ensures { λ _. ⌜ now (out .exit) ≡ put at (sealLine n s (now (frame .entry))) (now (out .entry)) ⌝ }
 {
-    let n = std::num::wrapping_add_u64(b.lines, 1);
-    let s = b.sender;
-    let receiver = b.receiver;
     let sealed = ccmp::seal(s, frame, result);
     let a = sealed.answer;
     let sender = sealed.sender;
     let end = put_answer(n, b"\tseal\t", a, result, out, at);
-    Turn {
-        book: Book {
-            lines: n,
-            stage: Stage::Going,
-            sender,
-            receiver,
-        },
-        end,
-    }
+    SealTurn { sender, end }
 }
 
-// A line that asks to open a frame.
-fn open_line(b: Book, frame: &[u8], result: &mut [u8], out: &mut [u8], at: usize) -> Turn
+// The same for a line that asks to open a frame.
+pub(crate) fn open_line(n: u64, r: Receiver, frame: &[u8], result: &mut [u8], out: &mut [u8], at: usize) -> OpenTurn
     requires { ⌜ (at + 4880 ≤ length (now out)) × (length (now frame) ≤ 2400) × (length (now result) ≡ 2416) ⌝ }
-    ensures { λ r. ⌜ r .book ≡ afterAsked b (opening (now (frame .entry))) ⌝ }
-    ensures { λ r. ⌜ r .end ≡ at + length (answerTo b (opening (now (frame .entry)))) ⌝ }
-    ensures { λ _. ⌜ now (out .exit) ≡ put at (answerTo b (opening (now (frame .entry)))) (now (out .entry)) ⌝ }
+    ensures { λ o. ⌜ o .receiver ≡ receiverNext r (openAnswer r (now (frame .entry)) (roomFor (now (frame .entry)))) ⌝ }
+    ensures { λ o. ⌜ o .end ≡ at + length (openLine n r (now (frame .entry))) ⌝ }
+    ensures { λ _. ⌜ now (out .exit) ≡ put at (openLine n r (now (frame .entry))) (now (out .entry)) ⌝ }
 {
-    let n = std::num::wrapping_add_u64(b.lines, 1);
-    let sender = b.sender;
-    let r = b.receiver;
     let opened = ccmp::open(r, frame, result);
     let a = opened.answer;
     let receiver = opened.receiver;
     let end = put_answer(n, b"\topen\t", a, result, out, at);
-    Turn {
-        book: Book {
-            lines: n,
-            stage: Stage::Going,
-            sender,
-            receiver,
-        },
-        end,
-    }
+    OpenTurn { receiver, end }
 }
 
 // Line 1.
-fn first_line(b: Book, line: &[u8], out: &mut [u8], at: usize) -> Turn
+pub(crate) fn first_line(b: Book, line: &[u8], out: &mut [u8], at: usize) -> Turn
     requires { ⌜ at + 4880 ≤ length (now out) ⌝ }
     ensures { λ r. ⌜ r .book ≡ begun b (fields (now (line .entry))) ⌝ }
     ensures { λ r. ⌜ r .end ≡ at + length (saysAt Stage.First b (fields (now (line .entry)))) ⌝ }
@@ -143,48 +135,5 @@ fn first_line(b: Book, line: &[u8], out: &mut [u8], at: usize) -> Turn
             receiver,
         },
         end: at,
-    }
-}
-
-// A line after a good line 1.
-fn later_line(b: Book, line: &[u8], frame: &mut [u8], result: &mut [u8], out: &mut [u8], at: usize) -> Turn
-    requires { ⌜ (at + 4880 ≤ length (now out)) × (length (now frame) ≡ 2400) × (length (now result) ≡ 2416) ⌝ }
-    ensures { λ r. ⌜ r .book ≡ afterAsked b (asked (fields (now (line .entry)))) ⌝ }
-    ensures { λ r. ⌜ r .end ≡ at + length (answerTo b (asked (fields (now (line .entry))))) ⌝ }
-    ensures { λ _. ⌜ now (out .exit) ≡ put at (answerTo b (asked (fields (now (line .entry))))) (now (out .entry)) ⌝ }
-{
-    match request_of(line, frame) {
-        Request::Malformed => {
-            let n = std::num::wrapping_add_u64(b.lines, 1);
-            let sender = b.sender;
-            let receiver = b.receiver;
-            let end = put_bad(n, out, at);
-            Turn {
-                book: Book {
-                    lines: n,
-                    stage: Stage::Going,
-                    sender,
-                    receiver,
-                },
-                end,
-            }
-        }
-        Request::Seal(k) => seal_line(b, &frame[..k], result, out, at),
-        Request::Open(k) => open_line(b, &frame[..k], result, out, at),
-    }
-}
-
-// Writes the answer to a line into out at a place. A frame and a result are lent for the work.
-pub(crate) fn answer(b: Book, line: &[u8], frame: &mut [u8], result: &mut [u8], out: &mut [u8], at: usize) -> Turn
-    requires { ⌜ (at + 4880 ≤ length (now out)) × (length (now frame) ≡ 2400) × (length (now result) ≡ 2416) ⌝ }
-    ensures { λ r. ⌜ r .book ≡ bookNext b (now (line .entry)) ⌝ }
-    ensures { λ r. ⌜ r .end ≡ at + length (bookSays b (now (line .entry))) ⌝ }
-    ensures { λ _. ⌜ now (out .exit) ≡ put at (bookSays b (now (line .entry))) (now (out .entry)) ⌝ }
-{
-    let stage = b.stage;
-    match stage {
-        Stage::First => first_line(b, line, out, at),
-        Stage::Going => later_line(b, line, frame, result, out, at),
-        Stage::Ended => Turn { book: b, end: at },
     }
 }

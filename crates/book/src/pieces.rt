@@ -3,7 +3,12 @@ use crate::Book;
 use crate::Reader;
 use crate::Stage;
 use crate::answer::MOST_ANSWER;
-use crate::answer::answer;
+use crate::answer::first_line;
+use crate::answer::open_line;
+use crate::answer::put_bad;
+use crate::answer::seal_line;
+use crate::line::Request;
+use crate::line::request_of;
 use crate::put::put_text;
 use rules::Receiver;
 use rules::Sender;
@@ -80,6 +85,7 @@ pub struct Lines {
     pub written: usize,
 }
 
+// Answers the lines that end in a piece, while there is room for an answer.
 fn feed_lines(b: Book, kept: usize, line: &mut [u8], piece: &[u8], out: &mut [u8]) -> Lines
     requires { ⌜ (length (now line) ≡ 4801) × (kept ≤ 4801) ⌝ }
     ensures { λ r. ⌜ Gave b (take kept (now (line .entry))) (take (r .taken) (now (piece .entry))) (now (out .entry)) (r .book) (take (r .kept) (now (line .exit))) (now (out .exit)) (r .written) ⌝ }
@@ -87,37 +93,88 @@ fn feed_lines(b: Book, kept: usize, line: &mut [u8], piece: &[u8], out: &mut [u8
 {
     let mut frame = [0u8; 2400];
     let mut result = [0u8; 2416];
-    let mut book = b;
+    let mut lines = b.lines;
+    let mut stage = b.stage;
+    let mut sender = b.sender;
+    let mut receiver = b.receiver;
     let mut here = kept;
     let mut at = 0;
     let mut written = 0;
     while at < piece.len() {
         if out.len() - written < MOST_ANSWER {
             return Lines {
-                book,
+                book: Book {
+                    lines,
+                    stage,
+                    sender,
+                    receiver,
+                },
                 kept: here,
                 taken: at,
                 written,
             };
         }
         let end = bytes::scan::find(piece, at, piece.len(), LINE_FEED);
-        here = keep(line, here, piece, at, end);
+        let text = keep(line, here, piece, at, end);
         if end == piece.len() {
             return Lines {
-                book,
-                kept: here,
+                book: Book {
+                    lines,
+                    stage,
+                    sender,
+                    receiver,
+                },
+                kept: text,
                 taken: end,
                 written,
             };
         }
         at = end + 1;
-        let turn = answer(book, &line[..here], &mut frame, &mut result, out, written);
-        book = turn.book;
-        written = turn.end;
         here = 0;
+        match stage {
+            Stage::First => {
+                let book = Book {
+                    lines,
+                    stage,
+                    sender,
+                    receiver,
+                };
+                let turn = first_line(book, &line[..text], out, written);
+                let next = turn.book;
+                lines = next.lines;
+                stage = next.stage;
+                sender = next.sender;
+                receiver = next.receiver;
+                written = turn.end;
+            }
+            Stage::Going => {
+                lines = std::num::wrapping_add_u64(lines, 1);
+                match request_of(&line[..text], &mut frame) {
+                    Request::Malformed => {
+                        written = put_bad(lines, out, written);
+                    }
+                    Request::Seal(k) => {
+                        let turn = seal_line(lines, sender, &frame[..k], &mut result, out, written);
+                        sender = turn.sender;
+                        written = turn.end;
+                    }
+                    Request::Open(k) => {
+                        let turn = open_line(lines, receiver, &frame[..k], &mut result, out, written);
+                        receiver = turn.receiver;
+                        written = turn.end;
+                    }
+                }
+            }
+            Stage::Ended => {}
+        }
     }
     Lines {
-        book,
+        book: Book {
+            lines,
+            stage,
+            sender,
+            receiver,
+        },
         kept: here,
         taken: at,
         written,
@@ -163,11 +220,8 @@ pub fn finish(r: Reader, out: &mut [u8; 4880]) -> usize
     if kept == 0 {
         return 0;
     }
-    let mut frame = [0u8; 2400];
-    let mut result = [0u8; 2416];
-    let line = r.line;
+    let mut line = r.line;
     let b = r.book;
-    let room: &mut [u8] = out;
-    let turn = answer(b, &line[..kept], &mut frame, &mut result, room, 0);
-    turn.end
+    let lines = feed_lines(b, kept, &mut line, b"\n", out);
+    lines.written
 }

@@ -1,33 +1,88 @@
--- Between two lines `Here` holds.
+-- Between two lines `Here` holds, and each kind of line leaves what the book says of it.
 use mathlib.Core.Path.{_≡_, refl, sym, ap, _∙_}
+use mathlib.Core.List.{List}
 use Prim.Native.Nat.{ℕ, _+_, _-_, _≤_, _<_}
 use native.Mathlib.Omega.{arith}
 use lib.ListN.{length, take}
 use lib.Seq.{length-take-le}
 use borrow.Author.Needs.{needs}
+use Rattle.rules.specs.declared.Sender.{Sender}
+use Rattle.rules.specs.declared.Receiver.{Receiver}
+use Rattle.book.specs.declared.Book.{Book}
+use Rattle.book.specs.declared.Stage.{Stage}
+use Rattle.book.specs.declared.Stage.the-variants.{First}
+use Rattle.book.specs.Line.{requestIn, frameIn}
+use Rattle.book.proofs.Answered.{Left, at-stage, nothing-left, bad-left, sealed-left, opened-left}
 use Rattle.book.proofs.Feeding.{Here, start, rest, more, short, all-taken}
 use Rattle.book.proofs.pieces.feed_lines.Statement.{statement}
 use Rattle.book.proofs.pieces.feed_lines.Tie as tie
 use Rattle.book.proofs.pieces.feed_lines.Reads as reads
 use Rattle.book.proofs.pieces.feed_lines.Lts as lts
-use Rattle.book.proofs.answer.answer.Reads as answer-reads
+use Rattle.book.proofs.answer.first_line.Reads as first-line-reads
+use Rattle.book.proofs.answer.open_line.Reads as open-line-reads
+use Rattle.book.proofs.answer.put_bad.Reads as put-bad-reads
+use Rattle.book.proofs.answer.seal_line.Reads as seal-line-reads
+use Rattle.book.proofs.line.request_of.Reads as request-of-reads
 use Rattle.book.proofs.pieces.keep.Reads as keep-reads
 use Rattle.bytes.proofs.scan.find.Reads as find-reads
+use Rattle.std.proofs.num.wrapping_add_u64.Reads as wrapping-add-u64-reads
+
+abbrev book : ℕ → Stage → Sender → Receiver → Book
+book lines stage sender receiver = record { lines = lines; stage = stage; sender = sender; receiver = receiver }
 
 abbrev Inv-loop : tie.InvT-loop
-Inv-loop kept line₀ piece out₀ frame₀ result₀ book₀ here₀ at₀ written₀ line out frame result book here at written =
-    (length frame ≡ 2400) × (length result ≡ 2416) × Here book₀ (take kept line₀) piece out₀ line out book here at written
+Inv-loop kept line₀ piece out₀ frame₀ result₀ lines₀ stage₀ sender₀ receiver₀ here₀ at₀ written₀ line out frame result lines stage sender receiver here at written =
+    (length frame ≡ 2400) × (length result ≡ 2416)
+    × Here (book lines₀ stage₀ sender₀ receiver₀) (take kept line₀) piece out₀ line out (book lines stage sender receiver) here at written
 
 abbrev μ-loop : tie.MeasureT-loop
-μ-loop kept line₀ piece out₀ frame₀ result₀ book₀ here₀ at₀ written₀ line out frame result book here at written =
+μ-loop kept line₀ piece out₀ frame₀ result₀ lines₀ stage₀ sender₀ receiver₀ here₀ at₀ written₀ line out frame result lines stage sender receiver here at written =
     length piece - at
 
-index-place : (c : tie.After-find Inv-loop μ-loop) → c .before .before .before .loop .at ≤ c .find .result
-index-place c = omega (arith, c .find .ensures .0)
+-- where a line has ended and is kept
+module _ (c : tie.Else2 Inv-loop μ-loop) where
+  abbrev B : Book
+  B = let l = c .before .before .before .before .before .before .before .before .loop in book (l .lines) (l .stage) (l .sender) (l .receiver)
+
+  abbrev T : List ℕ
+  T = take (c .before .before .before .keep .result) (c .before .before .before .keep .last .0)
+
+  within : c .before .before .before .keep .result ≤ length (c .before .before .before .keep .last .0)
+  within = let k = c .before .before .before .keep .ensures .0 in search needs
+
+  text-size : length T ≡ c .before .before .before .keep .result
+  text-size = length-take-le _ _ within
+
+  less : length (c .before .before .before .before .before .before .before .before .before .before .before .before .before .before .args .piece .now) - (c .before .before .before .before .before .find .result + 1) < length (c .before .before .before .before .before .before .before .before .before .before .before .before .before .before .args .piece .now) - c .before .before .before .before .before .before .before .before .loop .at
+  less = omega (arith, c .before .before .before .before .before .find .ensures .0, c .before .before .before .before .before .find .ensures .1, c .if2 .left, c .before .before .before .before .before .before .before .loop-test .taken)
+
+  next : (book₂ : Book) (out₂ : List ℕ) (w₂ : ℕ) → length out₂ ≡ length (c .before .before .before .before .before .before .before .before .loop .out) → Left B T (c .before .before .before .before .before .before .before .before .loop .written) (c .before .before .before .before .before .before .before .before .loop .out) book₂ w₂ out₂
+      → Here (c .before .before .before .before .before .before .before .before .before .before .before .before .before .before .args .b) (take (c .before .before .before .before .before .before .before .before .before .before .before .before .before .before .args .kept) (c .before .before .before .before .before .before .before .before .before .before .before .before .before .before .args .line .now)) (c .before .before .before .before .before .before .before .before .before .before .before .before .before .before .args .piece .now) (c .before .before .before .before .before .before .before .before .before .before .before .before .before .before .args .out .now) (c .before .before .before .keep .last .0) out₂ book₂ 0 (c .before .before .before .before .before .find .result + 1) w₂
+  next book₂ out₂ w₂ z h =
+      let a = c .before .before .before .before .before .before .before .before .before .before .before .before .before .before .args in
+      let l = c .before .before .before .before .before .before .before .before .loop in
+      let f = c .before .before .before .before .before .find in
+      let k = c .before .before .before .keep in
+      let n = c .if2 .left in
+      let m = f .ensures .1 in
+      more (a .b) (take (a .kept) (a .line .now)) (a .piece .now) (a .out .now) (l .line) (l .out) B (l .here) (l .at) (l .written) (l .inv .2) (f .result) (f .ensures .0) (k .last .0) (k .result) (search needs) (k .ensures .1) (omega arith)
+      book₂ out₂ w₂ z (h .0) (h .1 .0) (h .1 .1)
+
+framed : (c : tie.After-k Inv-loop μ-loop) → c .k .given .0 .0 ≤ length (c .before .before .before .request-of .last .1 .0)
+framed c = let n = ap frameIn (c .k .given .1) in let m = c .before .before .before .request-of .ensures .1 in search needs
+
+frame-size : (c : tie.After-k Inv-loop μ-loop) → length (take (c .k .given .0 .0) (c .before .before .before .request-of .last .1 .0)) ≡ c .k .given .0 .0
+frame-size c = length-take-le _ _ (framed c)
+
+framed2 : (c : tie.After-k2 Inv-loop μ-loop) → c .k2 .given .0 .0 ≤ length (c .before .before .before .request-of .last .1 .0)
+framed2 c = let n = ap frameIn (c .k2 .given .1) in let m = c .before .before .before .request-of .ensures .1 in search needs
+
+frame-size2 : (c : tie.After-k2 Inv-loop μ-loop) → length (take (c .k2 .given .0 .0) (c .before .before .before .request-of .last .1 .0)) ≡ c .k2 .given .0 .0
+frame-size2 c = length-take-le _ _ (framed2 c)
 
 loop-holds : tie.Need-loop-holds Inv-loop μ-loop
 loop-holds c =
-    let a = c .before .before .before .args in
+    let a = c .before .before .before .before .before .args in
     (refl, refl, start (a .b) (take (a .kept) (a .line .now)) (a .piece .now) (a .out .now) (a .line .now) (a .kept) (search needs) (search needs) refl)
 
 sub-if1 : tie.Need-sub-if1 Inv-loop μ-loop
@@ -58,47 +113,146 @@ same-length-4 c = search needs
 
 returns-2 : tie.Need-returns-2 Inv-loop μ-loop
 returns-2 c =
-    let a = c .before .before .before .before .before .before .before .before .before .before .before .before .args in
+    let a = c .before .before .before .before .before .before .before .before .before .before .before .before .before .before .args in
     let l = c .before .before .before .before .before .before .before .before .loop in
     let i = l .inv .2 in
     let f = c .before .before .before .before .before .find in
     let k = c .before .before .before .keep in
-    (rest (a .b) (take (a .kept) (a .line .now)) (a .piece .now) (a .out .now) (l .line) (l .out) (l .book) (l .here) (l .at) (l .written) i (f .result) (f .ensures .0) (k .last .0) (k .result) (search needs) (k .ensures .1) (c .if2 .taken),
+    (rest (a .b) (take (a .kept) (a .line .now)) (a .piece .now) (a .out .now) (l .line) (l .out) (book (l .lines) (l .stage) (l .sender) (l .receiver)) (l .here) (l .at) (l .written) i (f .result) (f .ensures .0) (k .last .0) (k .result) (search needs) (k .ensures .1) (c .if2 .taken),
     all-taken (a .b) (take (a .kept) (a .line .now)) (a .piece .now) (a .out .now) (f .result) (l .written) (c .if2 .taken) (i .room))
 
 add-at : tie.Need-add-at Inv-loop μ-loop
-add-at c = let f = c .before .before .before .before .before .find .ensures .1 in search needs
+add-at c = search needs
 
-slice-reshare-prefix-answer : tie.Need-slice-reshare-prefix-answer Inv-loop μ-loop
-slice-reshare-prefix-answer c = let k = c .before .before .before .keep .ensures .0 in search needs
+enum-told : tie.Need-enum-told Inv-loop μ-loop
+enum-told c = search needs
 
-slice-aggregate-answer : tie.Need-slice-aggregate-answer Inv-loop μ-loop
-slice-aggregate-answer c = sym (length-take-le _ _ (slice-reshare-prefix-answer (c .before)))
+slice-reshare-prefix-first-line : tie.Need-slice-reshare-prefix-first-line Inv-loop μ-loop
+slice-reshare-prefix-first-line c = within (c .before .before)
 
-slice-aggregate-answer-2 : tie.Need-slice-aggregate-answer-2 Inv-loop μ-loop
-slice-aggregate-answer-2 c = search needs
+slice-aggregate-first-line : tie.Need-slice-aggregate-first-line Inv-loop μ-loop
+slice-aggregate-first-line c = sym (text-size (c .before .before .before))
 
-slice-aggregate-answer-3 : tie.Need-slice-aggregate-answer-3 Inv-loop μ-loop
-slice-aggregate-answer-3 c = search needs
-
-answer-requires : tie.Need-answer-requires Inv-loop μ-loop
-answer-requires c κs = search needs
+first-line-requires : tie.Need-first-line-requires Inv-loop μ-loop
+first-line-requires c κs = search needs
 
 loop-less : tie.Need-loop-less Inv-loop μ-loop
-loop-less c = let f = c .before .before .before .before .before .before .before .before .before .before .before .before .before .before .before .find .ensures .1 in let n = c .before .before .before .before .before .before .before .before .before .before .if2 .left in let i = c .before .before .before .before .before .before .before .before .before .before .before .before .before .before .before .before .before .loop-test .taken in let e = index-place (c .before .before .before .before .before .before .before .before .before .before .before .before .before .before .before) in search needs
+loop-less c = less (c .before .before .before .before .before .before .before .before .before .before)
 
 loop-again : tie.Need-loop-again Inv-loop μ-loop
 loop-again c =
-    let a = c .before .before .before .before .before .before .before .before .before .before .before .before .before .before .before .before .before .before .before .before .before .before .args in
-    let l = c .before .before .before .before .before .before .before .before .before .before .before .before .before .before .before .before .before .before .loop in
-    let f = c .before .before .before .before .before .before .before .before .before .before .before .before .before .before .before .find in
-    let k = c .before .before .before .before .before .before .before .before .before .before .before .before .before .keep in
-    let t = c .before .before .before .before .before .answer in
-    let n = c .before .before .before .before .before .before .before .before .before .before .if2 .left in
-    let m = f .ensures .1 in
-    (search needs, search needs,
-    more (a .b) (take (a .kept) (a .line .now)) (a .piece .now) (a .out .now) (l .line) (l .out) (l .book) (l .here) (l .at) (l .written) (l .inv .2) (f .result) (f .ensures .0) (k .last .0) (k .result) (search needs) (k .ensures .1) (omega arith)
-    _ _ _ (search needs) (t .ensures .0) (t .ensures .1 .0) (t .ensures .1 .1))
+    let d = c .before .before .before .before .before .before .before .before .before .before in
+    let l = d .before .before .before .before .before .before .before .before .loop in
+    let t = c .before .before .before .before .before .first-line in
+    (search needs, search needs, next d _ _ _ (search needs) (at-stage (B d) _ First (T d) (l .written) _ (l .out) _ (c .before .before .before .before .before .before .before .before .enum-told .given .1) (t .ensures)))
+
+enum-told-2 : tie.Need-enum-told-2 Inv-loop μ-loop
+enum-told-2 c = search needs
+
+wrapping-add-u64-requires : tie.Need-wrapping-add-u64-requires Inv-loop μ-loop
+wrapping-add-u64-requires c κs = search needs
+
+slice-reshare-prefix-request-of : tie.Need-slice-reshare-prefix-request-of Inv-loop μ-loop
+slice-reshare-prefix-request-of c = within (c .before .before .before)
+
+slice-aggregate-request-of : tie.Need-slice-aggregate-request-of Inv-loop μ-loop
+slice-aggregate-request-of c = sym (text-size (c .before .before .before .before))
+
+slice-aggregate-request-of-2 : tie.Need-slice-aggregate-request-of-2 Inv-loop μ-loop
+slice-aggregate-request-of-2 c = search needs
+
+request-of-requires : tie.Need-request-of-requires Inv-loop μ-loop
+request-of-requires c κs = search needs
+
+enum-told-3 : tie.Need-enum-told-3 Inv-loop μ-loop
+enum-told-3 c = search needs
+
+put-bad-requires : tie.Need-put-bad-requires Inv-loop μ-loop
+put-bad-requires c κs = search needs
+
+loop-less-2 : tie.Need-loop-less-2 Inv-loop μ-loop
+loop-less-2 c = less (c .before .before .before .before .before .before .before .before .before .before .before .before .before)
+
+loop-again-2 : tie.Need-loop-again-2 Inv-loop μ-loop
+loop-again-2 c =
+    let d = c .before .before .before .before .before .before .before .before .before .before .before .before .before in
+    let l = d .before .before .before .before .before .before .before .before .loop in
+    let r = c .before .before .before .before .before .before .before .request-of in
+    let n = c .before .before .before .before .before .before .before .before .before .before .wrapping-add-u64 in
+    let g = c .before .before .before .before .before .before .before .before .before .before .before .enum-told2 .given .1 in
+    let p = c .before .before .put-bad .ensures in
+    (search needs, search needs, next d _ _ _ (search needs)
+    (bad-left (B d) (T d) g (l .written) (l .out) (n .result) (n .ensures) _ _ (ap (λ x. requestIn x (r .last .1 .0)) (sym (c .before .before .before .before .enum-told3 .given .1)) ∙ r .ensures .0) (p .0) (p .1)))
+
+enum-known-k : tie.Need-enum-known-k Inv-loop μ-loop
+enum-known-k c = search needs
+
+array-share-prefix-frame : tie.Need-array-share-prefix-frame Inv-loop μ-loop
+array-share-prefix-frame c = framed (c .before)
+
+slice-aggregate-seal-line : tie.Need-slice-aggregate-seal-line Inv-loop μ-loop
+slice-aggregate-seal-line c = sym (length-take-le _ _ (framed (c .before .before)))
+
+slice-aggregate-seal-line-2 : tie.Need-slice-aggregate-seal-line-2 Inv-loop μ-loop
+slice-aggregate-seal-line-2 c = search needs
+
+seal-line-requires : tie.Need-seal-line-requires Inv-loop μ-loop
+seal-line-requires c κs = let z = frame-size (c .before .before .before .before) in let m = framed (c .before .before .before .before) in search needs
+
+loop-less-3 : tie.Need-loop-less-3 Inv-loop μ-loop
+loop-less-3 c = less (c .before .before .before .before .before .before .before .before .before .before .before .before .before .before .before .before .before .before)
+
+loop-again-3 : tie.Need-loop-again-3 Inv-loop μ-loop
+loop-again-3 c =
+    let d = c .before .before .before .before .before .before .before .before .before .before .before .before .before .before .before .before .before .before in
+    let l = d .before .before .before .before .before .before .before .before .loop in
+    let r = c .before .before .before .before .before .before .before .before .before .before .before .before .request-of in
+    let n = c .before .before .before .before .before .before .before .before .before .before .before .before .before .before .before .wrapping-add-u64 in
+    let g = c .before .before .before .before .before .before .before .before .before .before .before .before .before .before .before .before .enum-told2 .given .1 in
+    let p = c .before .before .before .before .seal-line .ensures in
+    (search needs, search needs, next d _ _ _ (search needs)
+    (sealed-left (B d) (T d) g (l .written) (l .out) (n .result) (n .ensures) _ _ _ (ap (λ x. requestIn x (r .last .1 .0)) (sym (c .before .before .before .before .before .before .before .before .before .k .given .1)) ∙ r .ensures .0) _ (p .0) (p .1 .0) (p .1 .1)))
+
+enum-known-k-2 : tie.Need-enum-known-k-2 Inv-loop μ-loop
+enum-known-k-2 c = search needs
+
+array-share-prefix-frame-2 : tie.Need-array-share-prefix-frame-2 Inv-loop μ-loop
+array-share-prefix-frame-2 c = framed2 (c .before)
+
+slice-aggregate-open-line : tie.Need-slice-aggregate-open-line Inv-loop μ-loop
+slice-aggregate-open-line c = sym (length-take-le _ _ (framed2 (c .before .before)))
+
+slice-aggregate-open-line-2 : tie.Need-slice-aggregate-open-line-2 Inv-loop μ-loop
+slice-aggregate-open-line-2 c = search needs
+
+open-line-requires : tie.Need-open-line-requires Inv-loop μ-loop
+open-line-requires c κs = let z = frame-size2 (c .before .before .before .before) in let m = framed2 (c .before .before .before .before) in search needs
+
+loop-less-4 : tie.Need-loop-less-4 Inv-loop μ-loop
+loop-less-4 c = less (c .before .before .before .before .before .before .before .before .before .before .before .before .before .before .before .before .before .before)
+
+loop-again-4 : tie.Need-loop-again-4 Inv-loop μ-loop
+loop-again-4 c =
+    let d = c .before .before .before .before .before .before .before .before .before .before .before .before .before .before .before .before .before .before in
+    let l = d .before .before .before .before .before .before .before .before .loop in
+    let r = c .before .before .before .before .before .before .before .before .before .before .before .before .request-of in
+    let n = c .before .before .before .before .before .before .before .before .before .before .before .before .before .before .before .wrapping-add-u64 in
+    let g = c .before .before .before .before .before .before .before .before .before .before .before .before .before .before .before .before .enum-told2 .given .1 in
+    let p = c .before .before .before .before .open-line .ensures in
+    (search needs, search needs, next d _ _ _ (search needs)
+    (opened-left (B d) (T d) g (l .written) (l .out) (n .result) (n .ensures) _ _ _ (ap (λ x. requestIn x (r .last .1 .0)) (sym (c .before .before .before .before .before .before .before .before .before .k2 .given .1)) ∙ r .ensures .0) _ (p .0) (p .1 .0) (p .1 .1)))
+
+enum-told-4 : tie.Need-enum-told-4 Inv-loop μ-loop
+enum-told-4 c = search needs
+
+loop-less-5 : tie.Need-loop-less-5 Inv-loop μ-loop
+loop-less-5 c = less (c .before .before)
+
+loop-again-5 : tie.Need-loop-again-5 Inv-loop μ-loop
+loop-again-5 c =
+    let d = c .before .before in
+    let l = d .before .before .before .before .before .before .before .before .loop in
+    (search needs, search needs, next d _ _ _ (search needs) (nothing-left (B d) (T d) (l .written) (l .out) (c .enum-told4 .given .1)))
 
 same-length-5 : tie.Need-same-length-5 Inv-loop μ-loop
 same-length-5 c = search needs
@@ -108,7 +262,7 @@ same-length-6 c = search needs
 
 returns-3 : tie.Need-returns-3 Inv-loop μ-loop
 returns-3 c =
-    let a = c .before .before .before .before .before .args in
+    let a = c .before .before .before .before .before .before .before .args in
     let l = c .before .loop in
     let i = l .inv .2 in
     let end : l .at ≡ length (a .piece .now) = omega (arith, i .place, c .loop-test .left) in
@@ -131,13 +285,39 @@ feed-lines-spec =
     same-length-4
     returns-2
     add-at
-    slice-reshare-prefix-answer
-    slice-aggregate-answer
-    slice-aggregate-answer-2
-    slice-aggregate-answer-3
-    answer-requires
+    enum-told
+    slice-reshare-prefix-first-line
+    slice-aggregate-first-line
+    first-line-requires
     loop-less
     loop-again
+    enum-told-2
+    wrapping-add-u64-requires
+    slice-reshare-prefix-request-of
+    slice-aggregate-request-of
+    slice-aggregate-request-of-2
+    request-of-requires
+    enum-told-3
+    put-bad-requires
+    loop-less-2
+    loop-again-2
+    enum-known-k
+    array-share-prefix-frame
+    slice-aggregate-seal-line
+    slice-aggregate-seal-line-2
+    seal-line-requires
+    loop-less-3
+    loop-again-3
+    enum-known-k-2
+    array-share-prefix-frame-2
+    slice-aggregate-open-line
+    slice-aggregate-open-line-2
+    open-line-requires
+    loop-less-4
+    loop-again-4
+    enum-told-4
+    loop-less-5
+    loop-again-5
     same-length-5
     same-length-6
     returns-3)
