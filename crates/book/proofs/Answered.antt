@@ -1,11 +1,11 @@
 -- What a book's answer takes from sealing and opening: room that is enough is as good as any other.
 use mathlib.Core.Path.{_≡_, refl, sym, ap, ap₂, _∙_}
-use mathlib.Core.Bool.{Bool, true, false}
+use mathlib.Core.Bool.{true, false}
 use mathlib.Core.List.{List, [], _∷_, _++_}
-use Prim.Native.Nat.{ℕ, _+_, _-_, _≤_}
+use Prim.Native.Nat.{ℕ, _+_, _≤_}
 use native.Mathlib.Nat.{add-zero}
 use native.Mathlib.Omega.{arith}
-use lib.ListN.{length, take, drop, replicate, length-replicate, take-append-drop}
+use lib.ListN.{length, take, length-replicate, take-append-drop}
 use Rattle.rules.specs.Records.{freshSender, freshReceiver, senderNext, receiverNext}
 use Rattle.rules.specs.Answers.{told, answerNumber}
 use Rattle.rules.specs.Sealing.{sealedFrame, sealAnswer, sealOutput}
@@ -61,7 +61,7 @@ module _ (answer : List ℕ → Answer) (output : List ℕ → List ℕ) (result
   line-alike n word a out t o =
       let e = told-apart a (answer room) t in
       ap₂ (λ (x : ℕ) (y : List ℕ). decimal n ++ (word ++ (decimal x ++ (tab ∷ (y ++ (lineFeed ∷ []))))))
-        (ap answerNumber (e ∙ same)) (ap₂ shown e o ∙ shown-alike)
+      (ap answerNumber (e ∙ same)) (ap₂ shown e o ∙ shown-alike)
 
 -- sealing and opening in a room that is enough, as in the room for the frame
 module _ (f room : List ℕ) where
@@ -111,9 +111,10 @@ pub at-stage : (b book : Book) (stage : Stage) (line : List ℕ) (at end : ℕ) 
     → (book ≡ nextAt stage b (fields line)) × ((end ≡ at + length (saysAt stage b (fields line))) × (out ≡ put at (saysAt stage b (fields line)) o))
     → Left b line at o book end out
 unfolding bookNext bookSays
-at-stage b book stage line at end o out e h =
-    (h .0 ∙ ap (λ (s : Stage). nextAt s b (fields line)) (sym e),
-    (h .1 .0 ∙ ap (λ (s : Stage). at + length (saysAt s b (fields line))) (sym e), h .1 .1 ∙ ap (λ (s : Stage). put at (saysAt s b (fields line)) o) (sym e)))
+at-stage b book stage line at end o out e h = (
+  h .0 ∙ ap (λ (s : Stage). nextAt s b (fields line)) (sym e),
+  (h .1 .0 ∙ ap (λ (s : Stage). at + length (saysAt s b (fields line))) (sym e), h .1 .1 ∙ ap (λ (s : Stage). put at (saysAt s b (fields line)) o) (sym e)),
+)
 
 pub nothing-left : (b : Book) (line : List ℕ) (at : ℕ) (o : List ℕ) → b .stage ≡ Ended → Left b line at o b at o
 nothing-left b line at o e = at-stage b b Ended line at at o o e (refl, (sym (add-zero at), sym (put-nothing at o)))

@@ -1,21 +1,20 @@
 -- What holds between two lines of a piece, and what one more line of it, or the rest of it, makes of that.
 use mathlib.Core.Path.{_≡_, refl, sym, ap, ap₂, _∙_}
 use mathlib.Core.Logic.{⊎-elim}
-use mathlib.Core.List.{List, [], _∷_, _++_, append-nil, append-assoc}
+use mathlib.Core.List.{List, [], _∷_, _++_, append-nil}
 use Prim.Native.Nat.{ℕ, suc, _+_, _-_, _≤_, _<_}
 use native.Mathlib.Nat.{zero-add}
 use native.Mathlib.Omega.{arith}
-use native.Mathlib.Numerals.{add-one}
-use lib.ListN.{length, take, drop, length-drop, length-append, take-append-drop}
+use lib.ListN.{length, take, drop, length-drop, length-append}
 use lib.Seq.{take-all, take-take, length-take-le, take-add}
 use Rattle.bytes.specs.Bytes.{slice, indexOf}
 use Rattle.book.specs.declared.Book.{Book}
 use Rattle.book.specs.Put.{put}
-use Rattle.book.specs.Text.{lineFeed, prefix, parts, allButLast, lastOf}
+use Rattle.book.specs.Text.{lineFeed, parts}
 use Rattle.book.specs.Book.{bookSays, bookNext}
 use Rattle.book.specs.Pieces.{says, after, cut, ended, left, Gave, Enough}
 use Rattle.book.proofs.Held.{le-or, cut-append, same-says, same-next}
-use Rattle.book.proofs.Parts.{whole-slice, parts-none, parts-ended, index-most}
+use Rattle.book.proofs.Parts.{whole-slice, parts-none, parts-ended}
 use Rattle.book.proofs.Puts.{put-put, put-within}
 use Rattle.book.proofs.Whole.{says-append, after-append, ended-append, left-append, before-any}
 use Rattle.book.proofs.Answered.{put-nothing}
@@ -119,9 +118,9 @@ module _ (b : Book) (p piece out : List ℕ) where
               book-is = be ∙ ap (λ (y : Book). bookNext y (take h₂ line₂)) book-is ∙ same-next b₁ (take h₂ line₂) x same ∙ sym (ap (after b) lines ∙ after-append (ended p t) (x ∷ []) b);
               line-is = sym (ap cut line-left);
               room-is =
-                oe ∙ ap₂ (λ (i : ℕ) (y : List ℕ). put i (bookSays book (take h₂ line₂)) y) (w-is ∙ sym (zero-add (length (says b (ended p t))))) (here .gave .room-is)
-                ∙ put-put out 0 (says b (ended p t)) (omega (arith, here .room)) (bookSays book (take h₂ line₂))
-                ∙ ap (λ (y : List ℕ). put 0 y out) (ap (λ (y : List ℕ). says b (ended p t) ++ y) said ∙ sym all);
+                  oe ∙ ap₂ (λ (i : ℕ) (y : List ℕ). put i (bookSays book (take h₂ line₂)) y) (w-is ∙ sym (zero-add (length (says b (ended p t))))) (here .gave .room-is)
+                  ∙ put-put out 0 (says b (ended p t)) (omega (arith, here .room)) (bookSays book (take h₂ line₂))
+                  ∙ ap (λ (y : List ℕ). put 0 y out) (ap (λ (y : List ℕ). says b (ended p t) ++ y) said ∙ sym all);
               written-is = we ∙ ap₂ (λ (i : ℕ) (y : List ℕ). i + length y) w-is said ∙ sym (ap length all ∙ length-append (says b (ended p t)) (bookSays b₁ x));
             };
           }

@@ -3,7 +3,7 @@ use mathlib.Core.Path.{_≡_, refl, sym, ap, ap₂, _∙_}
 use mathlib.Core.Bool.{Bool, true, false}
 use mathlib.Core.Logic.{_⊎_, inl, inr, ⊎-elim}
 use mathlib.Core.List.{List, [], _∷_, _++_}
-use Prim.Native.Nat.{ℕ, suc, _+_, _≤_, _<_}
+use Prim.Native.Nat.{ℕ, _+_, _≤_, _<_}
 use native.Mathlib.Omega.{arith}
 use borrow.Author.Tests.{leb-true, leb-false, lt-ltb}
 use lib.Dec.{leb}
@@ -66,10 +66,11 @@ pub kept-cut : (line x : List ℕ) (kept n m : ℕ) → length line ≡ 4801 →
     → (end : ℕ) (line′ : List ℕ) → end ≡ kept + length (take n x) → line′ ≡ put kept (take n x) line → (end ≤ 4801) × (take end line′ ≡ cut (take kept line ++ take m x))
 kept-cut line x kept n m z r l h w end line′ e p =
     let size : length (take n x) ≡ n = length-take-le n x (omega arith) in
-    let front : length (take kept line) ≡ kept = length-take-le kept line (omega arith) in
-    (omega arith,
-    ap₂ (λ (i : ℕ) (y : List ℕ). take i y) e p ∙ take-put line kept (take n x) (omega arith)
-    ∙ cut-room (take kept line) x n m l (omega arith) h (either w front))
+    let front : length (take kept line) ≡ kept = length-take-le kept line (omega arith) in (
+      omega arith,
+      ap₂ (λ (i : ℕ) (y : List ℕ). take i y) e p ∙ take-put line kept (take n x) (omega arith)
+          ∙ cut-room (take kept line) x n m l (omega arith) h (either w front),
+    )
   where
     either : (n ≡ m) ⊎ (kept + n ≡ 4801) → length (take kept line) ≡ kept → (n ≡ m) ⊎ (length (take kept line) + n ≡ 4801)
     either (inl e) f = inl e

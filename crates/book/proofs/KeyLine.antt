@@ -1,10 +1,10 @@
 -- Line 1, by the places of its tabs.
-use mathlib.Core.Path.{_≡_, refl, sym, ap, ap₂, _∙_}
+use mathlib.Core.Path.{_≡_, refl, sym, ap, _∙_}
 use mathlib.Core.Bool.{Bool, true, false, cond, not}
 use mathlib.Core.Logic.{⊎-elim}
-use mathlib.Core.List.{List, [], _∷_, _++_}
+use mathlib.Core.List.{List, [], _∷_}
 use mathlib.Core.Option.{Option, none, some}
-use Prim.Native.Nat.{ℕ, zero, suc, _+_, _-_, _*_, _≤_, _<_}
+use Prim.Native.Nat.{ℕ, suc, _+_, _*_, _≤_, _<_}
 use native.Mathlib.Omega.{arith}
 use borrow.Author.Tests.{eqb-true, eq-eqb, leb-true, le-leb, le-ltb}
 use lib.Dec.{ltb, eqb}
@@ -76,11 +76,11 @@ first-ends s w q qs e =
     ⊎-elim
     (λ h. absurd (let z : s ∷ [] ≡ w ∷ q ∷ qs = sym (parts-none tab s h) ∙ e in let y : _≡_ {A = ℕ} 0 1 = cc in omega arith))
     (λ h.
-      let z : take (indexOf tab s) s ∷ parts tab (drop (suc (indexOf tab s)) s) ≡ w ∷ q ∷ qs = sym (parts-found tab s h) ∙ e in
-      let first : take (indexOf tab s) s ≡ w = cc in
-      let rest : parts tab (drop (suc (indexOf tab s)) s) ≡ q ∷ qs = cc in
-      let n : indexOf tab s ≡ length w = sym (length-take-le (indexOf tab s) s (omega arith)) ∙ ap length first in
-      (n, ap (λ (k : ℕ). parts tab (drop (suc k) s)) (sym n) ∙ rest))
+    let z : take (indexOf tab s) s ∷ parts tab (drop (suc (indexOf tab s)) s) ≡ w ∷ q ∷ qs = sym (parts-found tab s h) ∙ e in
+    let first : take (indexOf tab s) s ≡ w = cc in
+    let rest : parts tab (drop (suc (indexOf tab s)) s) ≡ q ∷ qs = cc in
+    let n : indexOf tab s ≡ length w = sym (length-take-le (indexOf tab s) s (omega arith)) ∙ ap length first in
+    (n, ap (λ (k : ℕ). parts tab (drop (suc k) s)) (sym n) ∙ rest))
     (le-or (length s) (indexOf tab s))
 
 pub last-part : (s p : List ℕ) → parts tab s ≡ p ∷ [] → p ≡ s
@@ -88,9 +88,9 @@ last-part s p e =
     ⊎-elim
     (λ h. let z : s ∷ [] ≡ p ∷ [] = sym (parts-none tab s h) ∙ e in cc)
     (λ h. absurd (
-      let q = parts-some tab (drop (suc (indexOf tab s)) s) in
-      let z : take (indexOf tab s) s ∷ q .0 ∷ q .1 .0 ≡ p ∷ [] = ap (λ (r : List (List ℕ)). take (indexOf tab s) s ∷ r) (sym (q .1 .1)) ∙ sym (parts-found tab s h) ∙ e in
-      let y : _≡_ {A = ℕ} 0 1 = cc in omega arith))
+    let q = parts-some tab (drop (suc (indexOf tab s)) s) in
+    let z : take (indexOf tab s) s ∷ q .0 ∷ q .1 .0 ≡ p ∷ [] = ap (λ (r : List (List ℕ)). take (indexOf tab s) s ∷ r) (sym (q .1 .1)) ∙ sym (parts-found tab s h) ∙ e in
+    let y : _≡_ {A = ℕ} 0 1 = cc in omega arith))
     (le-or (length s) (indexOf tab s))
 
 five-parts : (fs : List (List ℕ)) → length fs ≡ 5 → fs ≡ field fs 0 ∷ field fs 1 ∷ field fs 2 ∷ field fs 3 ∷ field fs 4 ∷ []
@@ -155,13 +155,13 @@ tabs-of line p =
     record {
       size = p .size;
       placed =
-        rw (le-ltb 4800 (length line) (omega (arith, p .size)))
-        (part-to line 0 3 4 (p .tab-0) (omega arith) (omega (arith, p .size))
-        ∙ ap (λ (r : List (List ℕ)). take 3 line ∷ r)
-            (part-to line 4 32 37 (p .tab-1) (omega arith) (omega (arith, p .size))
-            ∙ ap (λ (r : List (List ℕ)). take 32 (drop 4 line) ∷ r)
-                (part-to line 37 1 39 (p .tab-2) (omega arith) (omega (arith, p .size))
-                ∙ ap (λ (r : List (List ℕ)). take 1 (drop 37 line) ∷ r) (part-to line 39 12 52 (p .tab-3) (omega arith) (omega (arith, p .size))))));
+          rw (le-ltb 4800 (length line) (omega (arith, p .size)))
+          (part-to line 0 3 4 (p .tab-0) (omega arith) (omega (arith, p .size))
+          ∙ ap (λ (r : List (List ℕ)). take 3 line ∷ r)
+          (part-to line 4 32 37 (p .tab-1) (omega arith) (omega (arith, p .size))
+          ∙ ap (λ (r : List (List ℕ)). take 32 (drop 4 line) ∷ r)
+          (part-to line 37 1 39 (p .tab-2) (omega arith) (omega (arith, p .size))
+          ∙ ap (λ (r : List (List ℕ)). take 1 (drop 37 line) ∷ r) (part-to line 39 12 52 (p .tab-3) (omega arith) (omega (arith, p .size))))));
     }
 
 pub never : {A : Type 0} → false ≡ true → A
@@ -251,18 +251,19 @@ module _ (line : List ℕ) (t : KeyTabs line) where
       let one = one-field (drop 52 line) _ (read-some (drop 52 line) pr′) in
       let is : fields line ≡ take 3 line ∷ take 32 (drop 4 line) ∷ take 1 (drop 37 line) ∷ take 12 (drop 39 line) ∷ drop 52 line ∷ []
       = t .placed ∙ ap (λ (r : List (List ℕ)). take 3 line ∷ take 32 (drop 4 line) ∷ take 1 (drop 37 line) ∷ take 12 (drop 39 line) ∷ r) one in
-      let ends = t .size in
-      (g ∙ key-line (fields line) (rw is (record {
-        five = refl;
-        word = w;
-        key = is-hex 16 (take 32 (drop 4 line)) (length-take-le 32 (drop 4 line) (omega (arith, length-drop 4 line))) kr;
-        id = ap isKeyId id-is ∙ le-leb (digit (getD line 37 0)) 3 il;
-        own = is-hex 6 (take 12 (drop 39 line)) (length-take-le 12 (drop 39 line) (omega (arith, length-drop 39 line))) or;
-        peer = is-hex 6 (drop 52 line) (length-drop 52 line ∙ omega arith) pr′;
-      })),
-      λ e. rw is (record {
-        key-is = ke;
-        key-id-is = ie ∙ ap (λ (s : List ℕ). digit (getD s 0 0)) (sym id-is);
-        own-is = oe;
-        peer-is = pe ∙ ap (λ (s : List ℕ). contents (octetsOf s)) peer-all;
-      }))
+      let ends = t .size in (
+        g ∙ key-line (fields line) (rw is (record {
+          five = refl;
+          word = w;
+          key = is-hex 16 (take 32 (drop 4 line)) (length-take-le 32 (drop 4 line) (omega (arith, length-drop 4 line))) kr;
+          id = ap isKeyId id-is ∙ le-leb (digit (getD line 37 0)) 3 il;
+          own = is-hex 6 (take 12 (drop 39 line)) (length-take-le 12 (drop 39 line) (omega (arith, length-drop 39 line))) or;
+          peer = is-hex 6 (drop 52 line) (length-drop 52 line ∙ omega arith) pr′;
+        })),
+        λ e. rw is (record {
+          key-is = ke;
+          key-id-is = ie ∙ ap (λ (s : List ℕ). digit (getD s 0 0)) (sym id-is);
+          own-is = oe;
+          peer-is = pe ∙ ap (λ (s : List ℕ). contents (octetsOf s)) peer-all;
+        }),
+      )

@@ -1,11 +1,10 @@
 -- The parts of an answer's line, laid one behind the other.
-use mathlib.Core.Path.{_≡_, refl, sym, ap, _∙_}
+use mathlib.Core.Path.{_≡_, refl, ap, _∙_}
 use mathlib.Core.List.{List, [], _∷_, _++_, append-assoc}
 use Prim.Native.Nat.{ℕ, _+_, _*_, _≤_}
 use native.Mathlib.Omega.{arith}
 use lib.ListN.{length, take, length-append}
 use lib.Seq.{length-take-le}
-use Rattle.rules.specs.declared.Answer.{Answer}
 use Rattle.rules.specs.declared.Answer.the-variants.{Done, Refused}
 use Rattle.book.specs.Put.{put}
 use Rattle.book.specs.Hex.{hexOf}
@@ -13,10 +12,10 @@ use Rattle.book.specs.Decimal.{decimal}
 use Rattle.book.specs.Book.{badLine, answerText}
 use Rattle.book.proofs.Decimals.{length-decimal, decimal-small}
 use Rattle.book.proofs.Hexadecimals.{length-hex}
-use Rattle.book.proofs.Puts.{Laid, laid-more}
+use Rattle.book.proofs.Puts.{as-text, Laid, laid-more}
 
 laid-as : (at : ℕ) (o t u out : List ℕ) (end : ℕ) → t ≡ u → Laid at o t out end → (end ≡ at + length u) × (out ≡ put at u o)
-laid-as at o t u out end e h = (h .ends ∙ ap (λ (x : List ℕ). at + length x) e, h .is ∙ ap (λ (x : List ℕ). put at x o) e)
+laid-as at o t u out end e h = as-text at o t u out end e (h .ends, h .is)
 
 module _ (n at : ℕ) (o : List ℕ) (room : at + 4880 ≤ length o) (o₁ : List ℕ) (e₁ : ℕ) (p₁ : o₁ ≡ put at (decimal n) o) (q₁ : e₁ ≡ at + length (decimal n)) where
   number : Laid at o (decimal n) o₁ e₁

@@ -25,11 +25,11 @@ pub part-put : (text o : List ℕ) (at : ℕ) → at + length text ≤ length o
 part-put text o at l =
     let size = length-drop at o in
     ap₂ (λ (x y : List ℕ). take at o ++ ((take (length text) text ++ drop (length text) x) ++ y))
-        (take-all (length o - at) (drop at o) (omega arith))
-        (drop-of-length-le (drop at o) {i = length o - at} (omega arith))
+    (take-all (length o - at) (drop at o) (omega arith))
+    (drop-of-length-le (drop at o) {i = length o - at} (omega arith))
     ∙ ap (λ (x : List ℕ). take at o ++ x) (append-nil (take (length text) text ++ drop (length text) (drop at o)))
     ∙ ap₂ (λ (x y : List ℕ). take at o ++ (x ++ y)) (take-length text)
-        (drop-drop (length text) at o)
+    (drop-drop (length text) at o)
 
 module _ (o : List ℕ) (at : ℕ) (a : List ℕ) (l : at + length a ≤ length o) where
   abbrev front : List ℕ
@@ -64,6 +64,10 @@ module _ (o : List ℕ) (at : ℕ) (a : List ℕ) (l : at + length a ≤ length 
 pub put-within : (at : ℕ) (text o : List ℕ) → at ≤ length o → length (put at text o) ≡ length o → at + length text ≤ length o
 put-within at text o l e =
     omega (arith, length-append (take at o) (text ++ drop (at + length text) o), length-append text (drop (at + length text) o), length-take-le at o l)
+
+-- what is said of a text is said of one that is the same
+pub as-text : (at : ℕ) (o t u out : List ℕ) (end : ℕ) → t ≡ u → (end ≡ at + length t) × (out ≡ put at t o) → (end ≡ at + length u) × (out ≡ put at u o)
+as-text at o t u out end e h = (h .0 ∙ ap (λ (x : List ℕ). at + length x) e, h .1 ∙ ap (λ (x : List ℕ). put at x o) e)
 
 -- text laid at a place, and the place after it
 pub record Laid (at : ℕ) (o text out : List ℕ) (end : ℕ) : Type 0 where

@@ -1,7 +1,7 @@
 -- However a text comes in pieces, the output is that to the whole: the line that has not ended goes on in the next piece.
 use mathlib.Core.Path.{_≡_, refl, sym, ap, ap₂, _∙_}
 use mathlib.Core.List.{List, [], _∷_, _++_, append-assoc, append-nil}
-use Prim.Native.Nat.{ℕ, suc, _+_, _≤_, _<_}
+use Prim.Native.Nat.{ℕ, suc, _≤_}
 use native.Mathlib.Omega.{arith}
 use lib.ListN.{length, take}
 use lib.Seq.{take-take, take-all}
@@ -90,10 +90,11 @@ before-any b p l = (refl, sym (ap cut (append-nil p) ∙ take-all 4801 p l))
 pub another : (b : Book) (p t : List ℕ) (b₁ : Book) (q u : List ℕ) → b₁ ≡ after b (ended p t) → q ≡ cut (left p t)
     → (after b₁ (ended q u) ≡ after b (ended p (t ++ u))) × (cut (left q u) ≡ cut (left p (t ++ u)))
 another b p t b₁ q u be qe =
-    let e : cut q ≡ cut (left p t) = ap cut qe ∙ take-take 4801 4801 (left p t) (omega arith) in
-    (ap (λ (x : Book). after x (ended q u)) be ∙ after-cut q (left p t) e (after b (ended p t)) u
-    ∙ sym (ap (after b) (ended-append p t u) ∙ after-append (ended p t) (ended (left p t) u) b),
-    left-cut q (left p t) e u ∙ ap cut (sym (left-append p t u)))
+    let e : cut q ≡ cut (left p t) = ap cut qe ∙ take-take 4801 4801 (left p t) (omega arith) in (
+      ap (λ (x : Book). after x (ended q u)) be ∙ after-cut q (left p t) e (after b (ended p t)) u
+          ∙ sym (ap (after b) (ended-append p t u) ∙ after-append (ended p t) (ended (left p t) u) b),
+      left-cut q (left p t) e u ∙ ap cut (sym (left-append p t u)),
+    )
 
 -- a line feed ends a line as the end of the text does, unless the line is empty
 pub line-feed : (b : Book) (p : List ℕ) → (length p ≡ 0 → ⊥) → says b (ended p (lineFeed ∷ [])) ≡ says b (unended p)
@@ -115,10 +116,10 @@ from-any (t ∷ ts) b p q e =
     let rest = ended (left q t) (joined ts) ++ unended (left (left q t) (joined ts)) in
     ap₂ (λ (x : List ℕ) (b′ : Book). x ++ fedOutput b′ (cut (left p t)) ts) (says-cut p q e b t) (after-cut p q e b t)
     ∙ ap (λ (x : List ℕ). says b (ended q t) ++ x)
-        (from-any ts (after b (ended q t)) (cut (left p t)) (left q t) (take-take 4801 4801 (left p t) (omega arith) ∙ left-cut p q e t))
+    (from-any ts (after b (ended q t)) (cut (left p t)) (left q t) (take-take 4801 4801 (left p t) (omega arith) ∙ left-cut p q e t))
     ∙ sym (says-append (ended q t) rest b)
     ∙ ap (says b) (sym (append-assoc (ended q t) (ended (left q t) (joined ts)) (unended (left (left q t) (joined ts))))
-        ∙ ap₂ (λ (x : List (List ℕ)) (y : List ℕ). x ++ unended y) (sym (ended-append q t (joined ts))) (sym (left-append q t (joined ts))))
+    ∙ ap₂ (λ (x : List (List ℕ)) (y : List ℕ). x ++ unended y) (sym (ended-append q t (joined ts))) (sym (left-append q t (joined ts))))
 
 pub any-pieces : AnyPieces
 unfolding bookOutput lines

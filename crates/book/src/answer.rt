@@ -70,7 +70,14 @@ fn put_answer(n: u64, word: &[u8], a: Answer, result: &[u8], out: &mut [u8], at:
 }
 
 // The answer to a line that asks to seal a frame, and the sender after it. The result is lent for the work.
-pub(crate) fn seal_line(n: u64, s: Sender, frame: &[u8], result: &mut [u8], out: &mut [u8], at: usize) -> SealTurn
+pub(crate) fn seal_line(
+    n: u64,
+    s: Sender,
+    frame: &[u8],
+    result: &mut [u8],
+    out: &mut [u8],
+    at: usize,
+) -> SealTurn
     requires { ⌜ (at + 4880 ≤ length (now out)) × (length (now frame) ≤ 2400) × (length (now result) ≡ 2416) ⌝ }
     ensures { λ r. ⌜ r .sender ≡ senderNext s (sealAnswer s (now (frame .entry)) (roomFor (now (frame .entry)))) ⌝ }
     ensures { λ r. ⌜ r .end ≡ at + length (sealLine n s (now (frame .entry))) ⌝ }
@@ -84,7 +91,14 @@ pub(crate) fn seal_line(n: u64, s: Sender, frame: &[u8], result: &mut [u8], out:
 }
 
 // The same for a line that asks to open a frame.
-pub(crate) fn open_line(n: u64, r: Receiver, frame: &[u8], result: &mut [u8], out: &mut [u8], at: usize) -> OpenTurn
+pub(crate) fn open_line(
+    n: u64,
+    r: Receiver,
+    frame: &[u8],
+    result: &mut [u8],
+    out: &mut [u8],
+    at: usize,
+) -> OpenTurn
     requires { ⌜ (at + 4880 ≤ length (now out)) × (length (now frame) ≤ 2400) × (length (now result) ≡ 2416) ⌝ }
     ensures { λ o. ⌜ o .receiver ≡ receiverNext r (openAnswer r (now (frame .entry)) (roomFor (now (frame .entry)))) ⌝ }
     ensures { λ o. ⌜ o .end ≡ at + length (openLine n r (now (frame .entry))) ⌝ }

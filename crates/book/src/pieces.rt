@@ -159,7 +159,14 @@ fn feed_lines(b: Book, kept: usize, line: &mut [u8], piece: &[u8], out: &mut [u8
                         written = turn.end;
                     }
                     Request::Open(k) => {
-                        let turn = open_line(lines, receiver, &frame[..k], &mut result, out, written);
+                        let turn = open_line(
+                            lines,
+                            receiver,
+                            &frame[..k],
+                            &mut result,
+                            out,
+                            written,
+                        );
                         receiver = turn.receiver;
                         written = turn.end;
                     }

@@ -1,8 +1,8 @@
 -- Between two calls the reader is where the part of the piece before it leads.
-use mathlib.Core.Path.{_≡_, refl, sym, ap, _∙_}
+use mathlib.Core.Path.{_≡_, sym, ap, _∙_}
 use mathlib.Core.Bool.{true, false}
 use mathlib.Core.List.{List}
-use Prim.Native.Nat.{ℕ, _+_, _-_, _≤_, _<_}
+use Prim.Native.Nat.{ℕ, _-_, _≤_}
 use native.Mathlib.Omega.{arith}
 use lib.ListN.{length, take, drop, length-take, length-drop}
 use lib.Seq.{length-take-le, take-all, take-add}
@@ -11,10 +11,6 @@ use Rattle.book.specs.Pieces.{after, cut, held, ended, left}
 use Rattle.book.proofs.Whole.{before-any, another}
 use Rattle.framebook.proofs.feed_all.Statement.{statement}
 use Rattle.framebook.proofs.feed_all.Tie as tie
-use Rattle.framebook.proofs.feed_all.Reads as reads
-use Rattle.framebook.proofs.feed_all.Lts as lts
-use Rattle.book.proofs.feed.Reads as feed-reads
-use Rattle.io.proofs.write_all.Reads as write-all-reads
 
 abbrev Inv-loop : tie.InvT-loop
 Inv-loop piece out₀ reader₀ at₀ out reader at =
@@ -40,32 +36,8 @@ loop-holds c =
     let before = before-any (a .r .book) (held (a .r)) (omega (arith, length-take (a .r .length) (a .r .line))) in
     (search needs, search needs, before .0, before .1)
 
-sub-feed : tie.Need-sub-feed Inv-loop μ-loop
-sub-feed c = search needs
-
-part-feed-start : tie.Need-part-feed-start Inv-loop μ-loop
-part-feed-start c = search needs
-
-part-feed-end : tie.Need-part-feed-end Inv-loop μ-loop
-part-feed-end c = search needs
-
-feed-requires : tie.Need-feed-requires Inv-loop μ-loop
-feed-requires c κs = search needs
-
-add-at : tie.Need-add-at Inv-loop μ-loop
-add-at c = search needs
-
-slice-reshare-prefix-write-all : tie.Need-slice-reshare-prefix-write-all Inv-loop μ-loop
-slice-reshare-prefix-write-all c = search needs
-
 slice-aggregate-write-all : tie.Need-slice-aggregate-write-all Inv-loop μ-loop
 slice-aggregate-write-all c = sym (length-take-le _ _ (slice-reshare-prefix-write-all (c .before)))
-
-write-all-requires : tie.Need-write-all-requires Inv-loop μ-loop
-write-all-requires c κs = search needs
-
-same-length : tie.Need-same-length Inv-loop μ-loop
-same-length c = search needs
 
 returns : tie.Need-returns Inv-loop μ-loop
 returns c = (never, never)
@@ -89,13 +61,12 @@ loop-again c =
     let part : take (f .result .taken) (take (length (a .piece .now) - l .at) (drop (l .at) (a .piece .now))) ≡ t = ap (take (f .result .taken)) (rest-of (a .piece .now) (l .at)) in
     let next = sym (take-add (l .at) (f .result .taken) (a .piece .now)) in
     let more = another (a .r .book) (held (a .r)) (take (l .at) (a .piece .now)) (l .reader .book) (held (l .reader)) t (l .inv .2) (l .inv .3) in
-    let size = size-of (a .piece .now) (l .at) in
-    (search needs, search needs,
-    f .ensures .0 .book-is ∙ ap (λ x. after (l .reader .book) (ended (held (l .reader)) x)) part ∙ more .0 ∙ ap (λ x. after (a .r .book) (ended (held (a .r)) x)) next,
-    f .ensures .0 .line-is ∙ ap (λ x. cut (left (held (l .reader)) x)) part ∙ more .1 ∙ ap (λ x. cut (left (held (a .r)) x)) next)
-
-same-length-2 : tie.Need-same-length-2 Inv-loop μ-loop
-same-length-2 c = search needs
+    let size = size-of (a .piece .now) (l .at) in (
+      search needs,
+      search needs,
+      f .ensures .0 .book-is ∙ ap (λ x. after (l .reader .book) (ended (held (l .reader)) x)) part ∙ more .0 ∙ ap (λ x. after (a .r .book) (ended (held (a .r)) x)) next,
+      f .ensures .0 .line-is ∙ ap (λ x. cut (left (held (l .reader)) x)) part ∙ more .1 ∙ ap (λ x. cut (left (held (a .r)) x)) next,
+    )
 
 returns-2 : tie.Need-returns-2 Inv-loop μ-loop
 returns-2 c =
@@ -111,17 +82,17 @@ feed-all-spec =
     Inv-loop
     μ-loop
     loop-holds
-    sub-feed
-    part-feed-start
-    part-feed-end
-    feed-requires
-    add-at
-    slice-reshare-prefix-write-all
+    (λ c. search needs)
+    (λ c. search needs)
+    (λ c. search needs)
+    (λ c κs. search needs)
+    (λ c. search needs)
+    (λ c. search needs)
     slice-aggregate-write-all
-    write-all-requires
-    same-length
+    (λ c κs. search needs)
+    (λ c. search needs)
     returns
     loop-less
     loop-again
-    same-length-2
+    (λ c. search needs)
     returns-2)

@@ -1,13 +1,13 @@
 -- What opening answers in the lent room is what it answers in room that is enough.
 use mathlib.Core.Path.{ap, _∙_}
-use Prim.Native.Nat.{ℕ, _+_, _≤_}
+use Prim.Native.Nat.{_+_, _≤_}
 use native.Mathlib.Omega.{arith}
 use lib.ListN.{length}
 use borrow.Author.Needs.{needs}
 use Rattle.rules.specs.Records.{receiverNext}
-use Rattle.book.specs.Put.{put}
 use Rattle.book.specs.Book.{octetsWritten}
 use Rattle.book.proofs.Answered.{opened-fits, opens-alike, open-line}
+use Rattle.book.proofs.Puts.{as-text}
 use Rattle.book.proofs.answer.open_line.Statement.{statement}
 use Rattle.book.proofs.answer.open_line.Tie as tie
 
@@ -27,9 +27,10 @@ returns c =
     let s = c .before .before .before .before .before .before .before .before .before .«open» in
     let p = c .before .before .put-answer .ensures in
     let room : length (a .frame .now) + 16 ≤ length (a .result .now) = omega (arith, c₀ .pre) in
-    let text = open-line (a .frame .now) (a .result .now) room (a .n) (a .r) (s .result .answer) (s .last .1 .1 .0) (s .ensures .0) (s .ensures .1 .1) in
-    (s .ensures .1 .0 ∙ ap (receiverNext (a .r)) (opens-alike (a .frame .now) (a .result .now) room (a .r)),
-    (p .0 ∙ ap (λ t. a .at + length t) text, p .1 ∙ ap (λ t. put (a .at) t (a .out .now)) text))
+    let text = open-line (a .frame .now) (a .result .now) room (a .n) (a .r) (s .result .answer) (s .last .1 .1 .0) (s .ensures .0) (s .ensures .1 .1) in (
+      s .ensures .1 .0 ∙ ap (receiverNext (a .r)) (opens-alike (a .frame .now) (a .result .now) room (a .r)),
+      as-text (a .at) (a .out .now) _ _ _ _ text p,
+    )
 
 pub open-line-spec : {M : Type 1} → statement M
 open-line-spec =

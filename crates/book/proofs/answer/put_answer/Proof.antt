@@ -1,23 +1,15 @@
 -- Each part of the line is laid behind the one before it.
-use mathlib.Core.Path.{_≡_, refl, sym, ap, _∙_}
-use mathlib.Core.List.{List, _∷_, _++_, append-assoc}
-use Prim.Native.Nat.{ℕ, _+_, _*_, _≤_}
+use mathlib.Core.Path.{_≡_, sym, ap}
+use Prim.Native.Nat.{_≤_}
 use native.Mathlib.Omega.{arith}
 use lib.ListN.{length, take}
 use lib.Seq.{length-take-le}
 use borrow.Author.Needs.{needs}
-use Rattle.rules.specs.declared.Answer.{Answer}
-use Rattle.book.specs.Decimal.{decimal}
-use Rattle.book.specs.Book.{answerText, octetsWritten}
-use Rattle.book.proofs.Decimals.{length-decimal, decimal-small}
+use Rattle.book.specs.Book.{octetsWritten}
+use Rattle.book.proofs.Decimals.{length-decimal}
 use Rattle.book.proofs.Lines.{done-laid, refused-laid}
 use Rattle.book.proofs.answer.put_answer.Statement.{statement}
 use Rattle.book.proofs.answer.put_answer.Tie as tie
-use Rattle.book.proofs.answer.put_answer.Reads as reads
-use Rattle.book.proofs.answer.put_answer.Lts as lts
-use Rattle.book.proofs.decimal.put_decimal.Reads as put-decimal-reads
-use Rattle.book.proofs.hex.put_hex.Reads as put-hex-reads
-use Rattle.book.proofs.put.put_text.Reads as put-text-reads
 
 -- the frame's octets, where the answer is done
 taken : (c : tie.After-a) → c .a .given .0 .1 .1 .0 ≤ length (c .before .before .before .before .before .before .before .before .before .before .before .before .before .args .result .now)
@@ -26,17 +18,8 @@ taken c = omega (arith, ap octetsWritten (c .a .given .1), c .before .before .be
 size : (c : tie.After-a) → length (take (c .a .given .0 .1 .1 .0) (c .before .before .before .before .before .before .before .before .before .before .before .before .before .args .result .now)) ≡ c .a .given .0 .1 .1 .0
 size c = length-take-le _ _ (taken c)
 
-put-decimal-requires : tie.Need-put-decimal-requires
-put-decimal-requires c κs = search needs
-
 put-text-requires : tie.Need-put-text-requires
 put-text-requires c κs = let d = length-decimal (c .before .before .before .before .before .before .before .before .args .n) in search needs
-
-enum-known-a : tie.Need-enum-known-a
-enum-known-a c = search needs
-
-slice-aggregate-put-text : tie.Need-slice-aggregate-put-text
-slice-aggregate-put-text c = search needs
 
 put-text-requires-2 : tie.Need-put-text-requires-2
 put-text-requires-2 c κs = let d = length-decimal (c .before .before .before .before .before .before .before .before .before .before .before .before .before .before .before .before .args .n) in search needs
@@ -47,29 +30,14 @@ slice-aggregate-put-hex c = sym (size (c .before .before .before .before .before
 put-hex-requires : tie.Need-put-hex-requires
 put-hex-requires c κs = let d = length-decimal (c .before .before .before .before .before .before .before .before .before .before .before .before .before .before .before .before .before .before .before .before .before .args .n) in let z = size (c .before .before .before .before .before .before .before .before) in let l = taken (c .before .before .before .before .before .before .before .before) in search needs
 
-slice-aggregate-put-text-2 : tie.Need-slice-aggregate-put-text-2
-slice-aggregate-put-text-2 c = search needs
-
 put-text-requires-3 : tie.Need-put-text-requires-3
 put-text-requires-3 c κs = let d = length-decimal (c .before .before .before .before .before .before .before .before .before .before .before .before .before .before .before .before .before .before .before .before .before .before .before .before .before .before .args .n) in let z = size (c .before .before .before .before .before .before .before .before .before .before .before .before .before) in let l = taken (c .before .before .before .before .before .before .before .before .before .before .before .before .before) in search needs
-
-enum-known-a-2 : tie.Need-enum-known-a-2
-enum-known-a-2 c = search needs
-
-cast-put-decimal : tie.Need-cast-put-decimal
-cast-put-decimal c = search needs
 
 put-decimal-requires-2 : tie.Need-put-decimal-requires-2
 put-decimal-requires-2 c κs = let d = length-decimal (c .before .before .before .before .before .before .before .before .before .before .before .before .before .before .before .args .n) in search needs
 
-slice-aggregate-put-text-3 : tie.Need-slice-aggregate-put-text-3
-slice-aggregate-put-text-3 c = search needs
-
 put-text-requires-4 : tie.Need-put-text-requires-4
 put-text-requires-4 c κs = let d = length-decimal (c .before .before .before .before .before .before .before .before .before .before .before .before .before .before .before .before .before .before .before .before .args .n) in let z = length-decimal (c .before .before .before .before .before .before .before .a2 .given .0 .0) in search needs
-
-same-length : tie.Need-same-length
-same-length c = search needs
 
 returns : tie.Need-returns
 returns c =
@@ -83,9 +51,6 @@ returns c =
     let p₅ = c .before .before .put-text3 .ensures in
     rw (d .a .given .1)
     (done-laid (a .n) (a .at) (a .out .now) (c₀ .pre .0 .0) _ _ (p₁ .1) (p₁ .0) (a .word .now) (c₀ .pre .0 .1) _ _ (p₂ .1) (p₂ .0) 0 0 _ (a .result .now) (omega (arith, taken d)) (taken d) _ _ (p₃ .1) (p₃ .0) _ _ (p₄ .1) (p₄ .0) _ _ (p₅ .1) (p₅ .0))
-
-same-length-2 : tie.Need-same-length-2
-same-length-2 c = search needs
 
 returns-2 : tie.Need-returns-2
 returns-2 c =
@@ -103,21 +68,21 @@ pub put-answer-spec : {M : Type 1} → statement M
 put-answer-spec =
     tie.close
     (tie.spec
-    put-decimal-requires
+    (λ c κs. search needs)
     put-text-requires
-    enum-known-a
-    slice-aggregate-put-text
+    (λ c. search needs)
+    (λ c. search needs)
     put-text-requires-2
     slice-aggregate-put-hex
     put-hex-requires
-    slice-aggregate-put-text-2
+    (λ c. search needs)
     put-text-requires-3
-    enum-known-a-2
-    cast-put-decimal
+    (λ c. search needs)
+    (λ c. search needs)
     put-decimal-requires-2
-    slice-aggregate-put-text-3
+    (λ c. search needs)
     put-text-requires-4
-    same-length
+    (λ c. search needs)
     returns
-    same-length-2
+    (λ c. search needs)
     returns-2)

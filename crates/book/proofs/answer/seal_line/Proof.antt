@@ -1,13 +1,13 @@
 -- What sealing answers in the lent room is what it answers in room that is enough.
 use mathlib.Core.Path.{ap, _∙_}
-use Prim.Native.Nat.{ℕ, _+_, _≤_}
+use Prim.Native.Nat.{_+_, _≤_}
 use native.Mathlib.Omega.{arith}
 use lib.ListN.{length}
 use borrow.Author.Needs.{needs}
 use Rattle.rules.specs.Records.{senderNext}
-use Rattle.book.specs.Put.{put}
 use Rattle.book.specs.Book.{octetsWritten}
 use Rattle.book.proofs.Answered.{sealed-fits, seals-alike, seal-line}
+use Rattle.book.proofs.Puts.{as-text}
 use Rattle.book.proofs.answer.seal_line.Statement.{statement}
 use Rattle.book.proofs.answer.seal_line.Tie as tie
 
@@ -27,9 +27,10 @@ returns c =
     let s = c .before .before .before .before .before .before .before .before .before .seal in
     let p = c .before .before .put-answer .ensures in
     let room : length (a .frame .now) + 16 ≤ length (a .result .now) = omega (arith, c₀ .pre) in
-    let text = seal-line (a .frame .now) (a .result .now) room (a .n) (a .s) (s .result .answer) (s .last .1 .1 .0) (s .ensures .0) (s .ensures .1 .1) in
-    (s .ensures .1 .0 ∙ ap (senderNext (a .s)) (seals-alike (a .frame .now) (a .result .now) room (a .s)),
-    (p .0 ∙ ap (λ t. a .at + length t) text, p .1 ∙ ap (λ t. put (a .at) t (a .out .now)) text))
+    let text = seal-line (a .frame .now) (a .result .now) room (a .n) (a .s) (s .result .answer) (s .last .1 .1 .0) (s .ensures .0) (s .ensures .1 .1) in (
+      s .ensures .1 .0 ∙ ap (senderNext (a .s)) (seals-alike (a .frame .now) (a .result .now) room (a .s)),
+      as-text (a .at) (a .out .now) _ _ _ _ text p,
+    )
 
 pub seal-line-spec : {M : Type 1} → statement M
 seal-line-spec =

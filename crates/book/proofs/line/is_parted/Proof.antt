@@ -1,17 +1,13 @@
 -- The tabs of a good line 1 stand at 3, 36, 38 and 51, and where they do its fields are known.
 use mathlib.Core.Path.{_≡_}
 use mathlib.Core.List.{List}
-use Prim.Native.Nat.{ℕ, _+_}
-use native.Mathlib.Omega.{arith}
+use Prim.Native.Nat.{ℕ}
 use lib.ListN.{length}
 use borrow.Author.Needs.{needs}
 use borrow.Author.Tests.{eqb-true, eq-eqb}
 use Rattle.book.proofs.KeyLine.{places-of, tabs-of, never, found-at, at-found}
 use Rattle.book.proofs.line.is_parted.Statement.{statement}
 use Rattle.book.proofs.line.is_parted.Tie as tie
-use Rattle.book.proofs.line.is_parted.Reads as reads
-use Rattle.book.proofs.line.is_parted.Lts as lts
-use Rattle.bytes.proofs.scan.find.Reads as find-reads
 
 abbrev L : tie.Else1 → List ℕ
 L c = c .before .before .args .line .now
@@ -22,17 +18,11 @@ size c = search needs
 returns : tie.Need-returns
 returns c = (never, λ e. absurd (c .if1 .taken (places-of (c .before .before .args .line .now) e .size)))
 
-find-requires : tie.Need-find-requires
-find-requires c κs = search needs
-
 returns-2 : tie.Need-returns-2
 returns-2 c =
     let d = c .before .before in
     let f = c .before .find in
     (never, λ e. absurd (c .if2 .taken (found-at (L d) (size d) 0 3 (f .result) (f .ensures .0) (places-of (L d) e .tab-0))))
-
-find-requires-2 : tie.Need-find-requires-2
-find-requires-2 c κs = search needs
 
 returns-3 : tie.Need-returns-3
 returns-3 c =
@@ -40,42 +30,38 @@ returns-3 c =
     let f = c .before .find2 in
     (never, λ e. absurd (c .if3 .taken (found-at (L d) (size d) 4 32 (f .result) (f .ensures .0) (places-of (L d) e .tab-1))))
 
-find-requires-3 : tie.Need-find-requires-3
-find-requires-3 c κs = search needs
-
 returns-4 : tie.Need-returns-4
 returns-4 c =
     let d = c .before .before .before .before .before .before in
     let f = c .before .find3 in
     (never, λ e. absurd (c .if4 .taken (found-at (L d) (size d) 37 1 (f .result) (f .ensures .0) (places-of (L d) e .tab-2))))
 
-find-requires-4 : tie.Need-find-requires-4
-find-requires-4 c κs = search needs
-
 returns-5 : tie.Need-returns-5
 returns-5 c =
     let d = c .before .before .before .before .before .before .before in
     let l = L d in
     let z = size d in
-    let f = c .find4 in
-    (λ e. tabs-of l (record {
-      size = z;
-      tab-0 = at-found l z 0 3 (c .before .before .before .before .before .before .find .result) (c .before .before .before .before .before .before .find .ensures .0) (c .before .before .before .before .before .if2 .left);
-      tab-1 = at-found l z 4 32 (c .before .before .before .before .find2 .result) (c .before .before .before .before .find2 .ensures .0) (c .before .before .before .if3 .left);
-      tab-2 = at-found l z 37 1 (c .before .before .find3 .result) (c .before .before .find3 .ensures .0) (c .before .if4 .left);
-      tab-3 = at-found l z 39 12 (f .result) (f .ensures .0) (eqb-true (f .result) 51 e);
-    }), λ e. eq-eqb (f .result) 51 (found-at l z 39 12 (f .result) (f .ensures .0) (places-of l e .tab-3)))
+    let f = c .find4 in (
+      λ e. tabs-of l (record {
+        size = z;
+        tab-0 = at-found l z 0 3 (c .before .before .before .before .before .before .find .result) (c .before .before .before .before .before .before .find .ensures .0) (c .before .before .before .before .before .if2 .left);
+        tab-1 = at-found l z 4 32 (c .before .before .before .before .find2 .result) (c .before .before .before .before .find2 .ensures .0) (c .before .before .before .if3 .left);
+        tab-2 = at-found l z 37 1 (c .before .before .find3 .result) (c .before .before .find3 .ensures .0) (c .before .if4 .left);
+        tab-3 = at-found l z 39 12 (f .result) (f .ensures .0) (eqb-true (f .result) 51 e);
+      }),
+      λ e. eq-eqb (f .result) 51 (found-at l z 39 12 (f .result) (f .ensures .0) (places-of l e .tab-3)),
+    )
 
 pub is-parted-spec : {M : Type 1} → statement M
 is-parted-spec =
     tie.close
     (tie.spec
     returns
-    find-requires
+    (λ c κs. search needs)
     returns-2
-    find-requires-2
+    (λ c κs. search needs)
     returns-3
-    find-requires-3
+    (λ c κs. search needs)
     returns-4
-    find-requires-4
+    (λ c κs. search needs)
     returns-5)

@@ -1,34 +1,16 @@
 -- The digits are those of as many octets as there is room for.
-use mathlib.Core.Path.{_≡_, sym, ap, _∙_}
+use mathlib.Core.Path.{sym, ap, _∙_}
 use native.Mathlib.Omega.{arith}
 use borrow.Author.Needs.{needs}
 use Rattle.book.specs.Hex.{readIn, countIn}
-use Rattle.book.proofs.KeyLine.{never, none-read, all-read}
+use Rattle.book.proofs.KeyLine.{none-read, all-read}
 use Rattle.book.proofs.line.read_all.Statement.{statement}
 use Rattle.book.proofs.line.read_all.Tie as tie
-use Rattle.book.proofs.line.read_all.Reads as reads
-use Rattle.book.proofs.line.read_all.Lts as lts
-use Rattle.book.proofs.hex.read_hex.Reads as read-hex-reads
-
-read-hex-requires : tie.Need-read-hex-requires
-read-hex-requires c κs = search needs
-
-enum-told : tie.Need-enum-told
-enum-told c = search needs
-
-enum-told-2 : tie.Need-enum-told-2
-enum-told-2 c = search needs
-
-same-length : tie.Need-same-length
-same-length c = search needs
 
 returns : tie.Need-returns
 returns c =
     let r = c .before .before .before .before .read-hex in
     none-read _ _ (ap (λ x. readIn x (r .last .1 .0)) (sym (c .enum-told .given .1)) ∙ r .ensures .0)
-
-same-length-2 : tie.Need-same-length-2
-same-length-2 c = search needs
 
 returns-2 : tie.Need-returns-2
 returns-2 c =
@@ -39,4 +21,4 @@ returns-2 c =
 pub read-all-spec : {M : Type 1} → statement M
 read-all-spec =
     tie.close
-    (tie.spec read-hex-requires enum-told enum-told-2 same-length returns same-length-2 returns-2)
+    (tie.spec (λ c κs. search needs) (λ c. search needs) (λ c. search needs) (λ c. search needs) returns (λ c. search needs) returns-2)

@@ -1,7 +1,7 @@
 -- The first tab parts the word from the frame's digits; a line with more tabs has one among them, which is no digit.
 use mathlib.Core.Path.{_≡_, refl, sym, ap, _∙_}
 use mathlib.Core.List.{List}
-use mathlib.Core.Option.{Option, none, some}
+use mathlib.Core.Option.{Option, none}
 use Prim.Native.Nat.{ℕ, _+_, _-_, _≤_}
 use native.Mathlib.Omega.{arith}
 use lib.ListN.{length, take, drop}
@@ -12,11 +12,6 @@ use Rattle.book.specs.Line.{fields, askedOf, asked}
 use Rattle.book.proofs.Forms.{too-long, no-tab, seals, opens, neither, asked-is}
 use Rattle.book.proofs.line.request_of.Statement.{statement}
 use Rattle.book.proofs.line.request_of.Tie as tie
-use Rattle.book.proofs.line.request_of.Reads as reads
-use Rattle.book.proofs.line.request_of.Lts as lts
-use Rattle.book.proofs.hex.read_hex.Reads as read-hex-reads
-use Rattle.book.proofs.line.is_word.Reads as is-word-reads
-use Rattle.bytes.proofs.scan.find.Reads as find-reads
 
 -- where the line has a tab
 abbrev L : tie.Else2 → List ℕ
@@ -35,46 +30,13 @@ returns : tie.Need-returns
 returns c =
     (too-long (c .before .before .before .args .line .now) (c .if1 .taken), search needs)
 
-find-requires : tie.Need-find-requires
-find-requires c κs = search needs
-
 returns-2 : tie.Need-returns-2
 returns-2 c =
     let c₀ = c .before in
     (no-tab (c₀ .before .before .before .before .args .line .now) (c₀ .before .if1 .left) (c₀ .find .result) (c₀ .find .ensures .0) (c .if2 .taken), search needs)
 
-add-digits : tie.Need-add-digits
-add-digits c = search needs
-
 slice-aggregate-is-word : tie.Need-slice-aggregate-is-word
 slice-aggregate-is-word c = sym (length-take-le _ _ (within (c .before)))
-
-slice-aggregate-is-word-2 : tie.Need-slice-aggregate-is-word-2
-slice-aggregate-is-word-2 c = search needs
-
-is-word-requires : tie.Need-is-word-requires
-is-word-requires c κs = search needs
-
-sub-read-hex : tie.Need-sub-read-hex
-sub-read-hex c = search needs
-
-part-read-hex-start : tie.Need-part-read-hex-start
-part-read-hex-start c = search needs
-
-part-read-hex-end : tie.Need-part-read-hex-end
-part-read-hex-end c = search needs
-
-read-hex-requires : tie.Need-read-hex-requires
-read-hex-requires c κs = search needs
-
-enum-told : tie.Need-enum-told
-enum-told c = search needs
-
-enum-known-k : tie.Need-enum-known-k
-enum-known-k c = search needs
-
-same-length : tie.Need-same-length
-same-length c = search needs
 
 returns-3 : tie.Need-returns-3
 unfolding askedOf
@@ -82,47 +44,18 @@ returns-3 c =
     let c₀ = c .before .before .before .before in
     (reads-as (c .before .before .before .before .before .before .before .before .before .before .before) none (ap (λ r. readIn r (c₀ .read-hex .last .1 .0)) (sym (c .enum-told .given .1)) ∙ c₀ .read-hex .ensures .0), search needs)
 
-same-length-2 : tie.Need-same-length-2
-same-length-2 c = search needs
-
 returns-4 : tie.Need-returns-4
 returns-4 c =
     let c₀ = c .before .before .before .before .before in
     let d = c .before .before .before .before .before .before .before .before .before .before .before .before in
     let told = c .before .k .given .1 in
-    let count = ap countIn told in
-    (seals _ (sym ((c .before .before .before .before .before .before .before .before) .before .is-word .ensures) ∙ (c .before .before .before .before .before .before .before .before) .if3 .taken) _ ∙ reads-as d _ (ap (λ r. readIn r (c₀ .read-hex .last .1 .0)) (sym told) ∙ c₀ .read-hex .ensures .0),
-    omega (arith, c₀ .read-hex .ensures .1))
+    let count = ap countIn told in (
+      seals _ (sym ((c .before .before .before .before .before .before .before .before) .before .is-word .ensures) ∙ (c .before .before .before .before .before .before .before .before) .if3 .taken) _ ∙ reads-as d _ (ap (λ r. readIn r (c₀ .read-hex .last .1 .0)) (sym told) ∙ c₀ .read-hex .ensures .0),
+      omega (arith, c₀ .read-hex .ensures .1),
+    )
 
 slice-aggregate-is-word-3 : tie.Need-slice-aggregate-is-word-3
 slice-aggregate-is-word-3 c = sym (length-take-le _ _ (within (c .before .before .before .before .before)))
-
-slice-aggregate-is-word-4 : tie.Need-slice-aggregate-is-word-4
-slice-aggregate-is-word-4 c = search needs
-
-is-word-requires-2 : tie.Need-is-word-requires-2
-is-word-requires-2 c κs = search needs
-
-sub-read-hex-2 : tie.Need-sub-read-hex-2
-sub-read-hex-2 c = search needs
-
-part-read-hex-start-2 : tie.Need-part-read-hex-start-2
-part-read-hex-start-2 c = search needs
-
-part-read-hex-end-2 : tie.Need-part-read-hex-end-2
-part-read-hex-end-2 c = search needs
-
-read-hex-requires-2 : tie.Need-read-hex-requires-2
-read-hex-requires-2 c κs = search needs
-
-enum-told-2 : tie.Need-enum-told-2
-enum-told-2 c = search needs
-
-enum-known-k-2 : tie.Need-enum-known-k-2
-enum-known-k-2 c = search needs
-
-same-length-3 : tie.Need-same-length-3
-same-length-3 c = search needs
 
 returns-5 : tie.Need-returns-5
 unfolding askedOf
@@ -130,17 +63,15 @@ returns-5 c =
     let c₀ = c .before .before .before .before in
     (reads-as (c .before .before .before .before .before .before .before .before .before .before .before .before .before .before .before) none (ap (λ r. readIn r (c₀ .read-hex2 .last .1 .0)) (sym (c .enum-told2 .given .1)) ∙ c₀ .read-hex2 .ensures .0), search needs)
 
-same-length-4 : tie.Need-same-length-4
-same-length-4 c = search needs
-
 returns-6 : tie.Need-returns-6
 returns-6 c =
     let c₀ = c .before .before .before .before .before in
     let d = c .before .before .before .before .before .before .before .before .before .before .before .before .before .before .before .before in
     let told = c .before .k2 .given .1 in
-    let count = ap countIn told in
-    (opens _ (sym (c .before .before .before .before .before .before .before .before .before .before .before .before .before .is-word .ensures) ∙ c .before .before .before .before .before .before .before .before .before .before .before .before .if3 .left) (sym (c .before .before .before .before .before .before .before .before .before .is-word2 .ensures) ∙ c .before .before .before .before .before .before .before .before .if4 .taken) _ ∙ reads-as d _ (ap (λ r. readIn r (c₀ .read-hex2 .last .1 .0)) (sym told) ∙ c₀ .read-hex2 .ensures .0),
-    omega (arith, c₀ .read-hex2 .ensures .1))
+    let count = ap countIn told in (
+      opens _ (sym (c .before .before .before .before .before .before .before .before .before .before .before .before .before .is-word .ensures) ∙ c .before .before .before .before .before .before .before .before .before .before .before .before .if3 .left) (sym (c .before .before .before .before .before .before .before .before .before .is-word2 .ensures) ∙ c .before .before .before .before .before .before .before .before .if4 .taken) _ ∙ reads-as d _ (ap (λ r. readIn r (c₀ .read-hex2 .last .1 .0)) (sym told) ∙ c₀ .read-hex2 .ensures .0),
+      omega (arith, c₀ .read-hex2 .ensures .1),
+    )
 
 returns-7 : tie.Need-returns-7
 returns-7 c =
@@ -151,33 +82,33 @@ request-of-spec =
     tie.close
     (tie.spec
     returns
-    find-requires
+    (λ c κs. search needs)
     returns-2
-    add-digits
+    (λ c. search needs)
     slice-aggregate-is-word
-    slice-aggregate-is-word-2
-    is-word-requires
-    sub-read-hex
-    part-read-hex-start
-    part-read-hex-end
-    read-hex-requires
-    enum-told
-    enum-known-k
-    same-length
+    (λ c. search needs)
+    (λ c κs. search needs)
+    (λ c. search needs)
+    (λ c. search needs)
+    (λ c. search needs)
+    (λ c κs. search needs)
+    (λ c. search needs)
+    (λ c. search needs)
+    (λ c. search needs)
     returns-3
-    same-length-2
+    (λ c. search needs)
     returns-4
     slice-aggregate-is-word-3
-    slice-aggregate-is-word-4
-    is-word-requires-2
-    sub-read-hex-2
-    part-read-hex-start-2
-    part-read-hex-end-2
-    read-hex-requires-2
-    enum-told-2
-    enum-known-k-2
-    same-length-3
+    (λ c. search needs)
+    (λ c κs. search needs)
+    (λ c. search needs)
+    (λ c. search needs)
+    (λ c. search needs)
+    (λ c κs. search needs)
+    (λ c. search needs)
+    (λ c. search needs)
+    (λ c. search needs)
     returns-5
-    same-length-4
+    (λ c. search needs)
     returns-6
     returns-7)

@@ -16,16 +16,6 @@ use Rattle.book.proofs.Answered.{Left, at-stage, nothing-left, bad-left
 use Rattle.book.proofs.Feeding.{Here, start, rest, more, short, all-taken}
 use Rattle.book.proofs.pieces.feed_lines.Statement.{statement}
 use Rattle.book.proofs.pieces.feed_lines.Tie as tie
-use Rattle.book.proofs.pieces.feed_lines.Reads as reads
-use Rattle.book.proofs.pieces.feed_lines.Lts as lts
-use Rattle.book.proofs.answer.first_line.Reads as first-line-reads
-use Rattle.book.proofs.answer.open_line.Reads as open-line-reads
-use Rattle.book.proofs.answer.put_bad.Reads as put-bad-reads
-use Rattle.book.proofs.answer.seal_line.Reads as seal-line-reads
-use Rattle.book.proofs.line.request_of.Reads as request-of-reads
-use Rattle.book.proofs.pieces.keep.Reads as keep-reads
-use Rattle.bytes.proofs.scan.find.Reads as find-reads
-use Rattle.std.proofs.num.wrapping_add_u64.Reads as wrapping-add-u64-reads
 
 abbrev book : ℕ → Stage → Sender → Receiver → Book
 book lines stage sender receiver = record { lines = lines; stage = stage; sender = sender; receiver = receiver }
@@ -85,31 +75,10 @@ loop-holds c =
     let a = c .before .before .before .before .before .args in
     (refl, refl, start (a .b) (take (a .kept) (a .line .now)) (a .piece .now) (a .out .now) (a .line .now) (a .kept) (search needs) (search needs) refl)
 
-sub-if1 : tie.Need-sub-if1 Inv-loop μ-loop
-sub-if1 c = search needs
-
-same-length : tie.Need-same-length Inv-loop μ-loop
-same-length c = search needs
-
-same-length-2 : tie.Need-same-length-2 Inv-loop μ-loop
-same-length-2 c = search needs
-
 returns : tie.Need-returns Inv-loop μ-loop
 returns c =
     let i = c .before .before .loop .inv .2 in
     (i .gave, short _ _ _ _ _ _ _ _ _ _ i (rw (i .out-size) at (c .if1 .taken)))
-
-find-requires : tie.Need-find-requires Inv-loop μ-loop
-find-requires c κs = search needs
-
-keep-requires : tie.Need-keep-requires Inv-loop μ-loop
-keep-requires c κs = search needs
-
-same-length-3 : tie.Need-same-length-3 Inv-loop μ-loop
-same-length-3 c = search needs
-
-same-length-4 : tie.Need-same-length-4 Inv-loop μ-loop
-same-length-4 c = search needs
 
 returns-2 : tie.Need-returns-2 Inv-loop μ-loop
 returns-2 c =
@@ -117,24 +86,16 @@ returns-2 c =
     let l = c .before .before .before .before .before .before .before .before .loop in
     let i = l .inv .2 in
     let f = c .before .before .before .before .before .find in
-    let k = c .before .before .before .keep in
-    (rest (a .b) (take (a .kept) (a .line .now)) (a .piece .now) (a .out .now) (l .line) (l .out) (book (l .lines) (l .stage) (l .sender) (l .receiver)) (l .here) (l .at) (l .written) i (f .result) (f .ensures .0) (k .last .0) (k .result) (search needs) (k .ensures .1) (c .if2 .taken),
-    all-taken (a .b) (take (a .kept) (a .line .now)) (a .piece .now) (a .out .now) (f .result) (l .written) (c .if2 .taken) (i .room))
-
-add-at : tie.Need-add-at Inv-loop μ-loop
-add-at c = search needs
-
-enum-told : tie.Need-enum-told Inv-loop μ-loop
-enum-told c = search needs
+    let k = c .before .before .before .keep in (
+      rest (a .b) (take (a .kept) (a .line .now)) (a .piece .now) (a .out .now) (l .line) (l .out) (book (l .lines) (l .stage) (l .sender) (l .receiver)) (l .here) (l .at) (l .written) i (f .result) (f .ensures .0) (k .last .0) (k .result) (search needs) (k .ensures .1) (c .if2 .taken),
+      all-taken (a .b) (take (a .kept) (a .line .now)) (a .piece .now) (a .out .now) (f .result) (l .written) (c .if2 .taken) (i .room),
+    )
 
 slice-reshare-prefix-first-line : tie.Need-slice-reshare-prefix-first-line Inv-loop μ-loop
 slice-reshare-prefix-first-line c = within (c .before .before)
 
 slice-aggregate-first-line : tie.Need-slice-aggregate-first-line Inv-loop μ-loop
 slice-aggregate-first-line c = sym (text-size (c .before .before .before))
-
-first-line-requires : tie.Need-first-line-requires Inv-loop μ-loop
-first-line-requires c κs = search needs
 
 loop-less : tie.Need-loop-less Inv-loop μ-loop
 loop-less c = less (c .before .before .before .before .before .before .before .before .before .before)
@@ -146,29 +107,11 @@ loop-again c =
     let t = c .before .before .before .before .before .first-line in
     (search needs, search needs, next d _ _ _ (search needs) (at-stage (B d) _ First (T d) (l .written) _ (l .out) _ (c .before .before .before .before .before .before .before .before .enum-told .given .1) (t .ensures)))
 
-enum-told-2 : tie.Need-enum-told-2 Inv-loop μ-loop
-enum-told-2 c = search needs
-
-wrapping-add-u64-requires : tie.Need-wrapping-add-u64-requires Inv-loop μ-loop
-wrapping-add-u64-requires c κs = search needs
-
 slice-reshare-prefix-request-of : tie.Need-slice-reshare-prefix-request-of Inv-loop μ-loop
 slice-reshare-prefix-request-of c = within (c .before .before .before)
 
 slice-aggregate-request-of : tie.Need-slice-aggregate-request-of Inv-loop μ-loop
 slice-aggregate-request-of c = sym (text-size (c .before .before .before .before))
-
-slice-aggregate-request-of-2 : tie.Need-slice-aggregate-request-of-2 Inv-loop μ-loop
-slice-aggregate-request-of-2 c = search needs
-
-request-of-requires : tie.Need-request-of-requires Inv-loop μ-loop
-request-of-requires c κs = search needs
-
-enum-told-3 : tie.Need-enum-told-3 Inv-loop μ-loop
-enum-told-3 c = search needs
-
-put-bad-requires : tie.Need-put-bad-requires Inv-loop μ-loop
-put-bad-requires c κs = search needs
 
 loop-less-2 : tie.Need-loop-less-2 Inv-loop μ-loop
 loop-less-2 c = less (c .before .before .before .before .before .before .before .before .before .before .before .before .before)
@@ -180,21 +123,18 @@ loop-again-2 c =
     let r = c .before .before .before .before .before .before .before .request-of in
     let n = c .before .before .before .before .before .before .before .before .before .before .wrapping-add-u64 in
     let g = c .before .before .before .before .before .before .before .before .before .before .before .enum-told2 .given .1 in
-    let p = c .before .before .put-bad .ensures in
-    (search needs, search needs, next d _ _ _ (search needs)
-    (bad-left (B d) (T d) g (l .written) (l .out) (n .result) (n .ensures) _ _ (ap (λ x. requestIn x (r .last .1 .0)) (sym (c .before .before .before .before .enum-told3 .given .1)) ∙ r .ensures .0) (p .0) (p .1)))
-
-enum-known-k : tie.Need-enum-known-k Inv-loop μ-loop
-enum-known-k c = search needs
+    let p = c .before .before .put-bad .ensures in (
+      search needs,
+      search needs,
+      next d _ _ _ (search needs)
+          (bad-left (B d) (T d) g (l .written) (l .out) (n .result) (n .ensures) _ _ (ap (λ x. requestIn x (r .last .1 .0)) (sym (c .before .before .before .before .enum-told3 .given .1)) ∙ r .ensures .0) (p .0) (p .1)),
+    )
 
 array-share-prefix-frame : tie.Need-array-share-prefix-frame Inv-loop μ-loop
 array-share-prefix-frame c = framed (c .before)
 
 slice-aggregate-seal-line : tie.Need-slice-aggregate-seal-line Inv-loop μ-loop
 slice-aggregate-seal-line c = sym (length-take-le _ _ (framed (c .before .before)))
-
-slice-aggregate-seal-line-2 : tie.Need-slice-aggregate-seal-line-2 Inv-loop μ-loop
-slice-aggregate-seal-line-2 c = search needs
 
 seal-line-requires : tie.Need-seal-line-requires Inv-loop μ-loop
 seal-line-requires c κs = let z = frame-size (c .before .before .before .before) in let m = framed (c .before .before .before .before) in search needs
@@ -209,21 +149,18 @@ loop-again-3 c =
     let r = c .before .before .before .before .before .before .before .before .before .before .before .before .request-of in
     let n = c .before .before .before .before .before .before .before .before .before .before .before .before .before .before .before .wrapping-add-u64 in
     let g = c .before .before .before .before .before .before .before .before .before .before .before .before .before .before .before .before .enum-told2 .given .1 in
-    let p = c .before .before .before .before .seal-line .ensures in
-    (search needs, search needs, next d _ _ _ (search needs)
-    (sealed-left (B d) (T d) g (l .written) (l .out) (n .result) (n .ensures) _ _ _ (ap (λ x. requestIn x (r .last .1 .0)) (sym (c .before .before .before .before .before .before .before .before .before .k .given .1)) ∙ r .ensures .0) _ (p .0) (p .1 .0) (p .1 .1)))
-
-enum-known-k-2 : tie.Need-enum-known-k-2 Inv-loop μ-loop
-enum-known-k-2 c = search needs
+    let p = c .before .before .before .before .seal-line .ensures in (
+      search needs,
+      search needs,
+      next d _ _ _ (search needs)
+          (sealed-left (B d) (T d) g (l .written) (l .out) (n .result) (n .ensures) _ _ _ (ap (λ x. requestIn x (r .last .1 .0)) (sym (c .before .before .before .before .before .before .before .before .before .k .given .1)) ∙ r .ensures .0) _ (p .0) (p .1 .0) (p .1 .1)),
+    )
 
 array-share-prefix-frame-2 : tie.Need-array-share-prefix-frame-2 Inv-loop μ-loop
 array-share-prefix-frame-2 c = framed2 (c .before)
 
 slice-aggregate-open-line : tie.Need-slice-aggregate-open-line Inv-loop μ-loop
 slice-aggregate-open-line c = sym (length-take-le _ _ (framed2 (c .before .before)))
-
-slice-aggregate-open-line-2 : tie.Need-slice-aggregate-open-line-2 Inv-loop μ-loop
-slice-aggregate-open-line-2 c = search needs
 
 open-line-requires : tie.Need-open-line-requires Inv-loop μ-loop
 open-line-requires c κs = let z = frame-size2 (c .before .before .before .before) in let m = framed2 (c .before .before .before .before) in search needs
@@ -238,12 +175,12 @@ loop-again-4 c =
     let r = c .before .before .before .before .before .before .before .before .before .before .before .before .request-of in
     let n = c .before .before .before .before .before .before .before .before .before .before .before .before .before .before .before .wrapping-add-u64 in
     let g = c .before .before .before .before .before .before .before .before .before .before .before .before .before .before .before .before .enum-told2 .given .1 in
-    let p = c .before .before .before .before .open-line .ensures in
-    (search needs, search needs, next d _ _ _ (search needs)
-    (opened-left (B d) (T d) g (l .written) (l .out) (n .result) (n .ensures) _ _ _ (ap (λ x. requestIn x (r .last .1 .0)) (sym (c .before .before .before .before .before .before .before .before .before .k2 .given .1)) ∙ r .ensures .0) _ (p .0) (p .1 .0) (p .1 .1)))
-
-enum-told-4 : tie.Need-enum-told-4 Inv-loop μ-loop
-enum-told-4 c = search needs
+    let p = c .before .before .before .before .open-line .ensures in (
+      search needs,
+      search needs,
+      next d _ _ _ (search needs)
+          (opened-left (B d) (T d) g (l .written) (l .out) (n .result) (n .ensures) _ _ _ (ap (λ x. requestIn x (r .last .1 .0)) (sym (c .before .before .before .before .before .before .before .before .before .k2 .given .1)) ∙ r .ensures .0) _ (p .0) (p .1 .0) (p .1 .1)),
+    )
 
 loop-less-5 : tie.Need-loop-less-5 Inv-loop μ-loop
 loop-less-5 c = less (c .before .before)
@@ -253,12 +190,6 @@ loop-again-5 c =
     let d = c .before .before in
     let l = d .before .before .before .before .before .before .before .before .loop in
     (search needs, search needs, next d _ _ _ (search needs) (nothing-left (B d) (T d) (l .written) (l .out) (c .enum-told4 .given .1)))
-
-same-length-5 : tie.Need-same-length-5 Inv-loop μ-loop
-same-length-5 c = search needs
-
-same-length-6 : tie.Need-same-length-6 Inv-loop μ-loop
-same-length-6 c = search needs
 
 returns-3 : tie.Need-returns-3 Inv-loop μ-loop
 returns-3 c =
@@ -275,49 +206,49 @@ feed-lines-spec =
     Inv-loop
     μ-loop
     loop-holds
-    sub-if1
-    same-length
-    same-length-2
+    (λ c. search needs)
+    (λ c. search needs)
+    (λ c. search needs)
     returns
-    find-requires
-    keep-requires
-    same-length-3
-    same-length-4
+    (λ c κs. search needs)
+    (λ c κs. search needs)
+    (λ c. search needs)
+    (λ c. search needs)
     returns-2
-    add-at
-    enum-told
+    (λ c. search needs)
+    (λ c. search needs)
     slice-reshare-prefix-first-line
     slice-aggregate-first-line
-    first-line-requires
+    (λ c κs. search needs)
     loop-less
     loop-again
-    enum-told-2
-    wrapping-add-u64-requires
+    (λ c. search needs)
+    (λ c κs. search needs)
     slice-reshare-prefix-request-of
     slice-aggregate-request-of
-    slice-aggregate-request-of-2
-    request-of-requires
-    enum-told-3
-    put-bad-requires
+    (λ c. search needs)
+    (λ c κs. search needs)
+    (λ c. search needs)
+    (λ c κs. search needs)
     loop-less-2
     loop-again-2
-    enum-known-k
+    (λ c. search needs)
     array-share-prefix-frame
     slice-aggregate-seal-line
-    slice-aggregate-seal-line-2
+    (λ c. search needs)
     seal-line-requires
     loop-less-3
     loop-again-3
-    enum-known-k-2
+    (λ c. search needs)
     array-share-prefix-frame-2
     slice-aggregate-open-line
-    slice-aggregate-open-line-2
+    (λ c. search needs)
     open-line-requires
     loop-less-4
     loop-again-4
-    enum-told-4
+    (λ c. search needs)
     loop-less-5
     loop-again-5
-    same-length-5
-    same-length-6
+    (λ c. search needs)
+    (λ c. search needs)
     returns-3)

@@ -7,17 +7,13 @@ use lib.ListN.{length, take}
 use lib.Seq.{length-take-le}
 use borrow.Author.Needs.{needs}
 use Rattle.book.specs.Put.{put}
-use Rattle.book.specs.Text.{lineFeed, unended}
+use Rattle.book.specs.Text.{unended}
 use Rattle.book.specs.Pieces.{says, held, ended}
 use Rattle.book.proofs.Answered.{put-nothing}
 use Rattle.book.proofs.Held.{kept-held, none-said}
 use Rattle.book.proofs.Whole.{line-feed}
 use Rattle.book.proofs.pieces.finish.Statement.{statement}
 use Rattle.book.proofs.pieces.finish.Tie as tie
-use Rattle.book.proofs.pieces.finish.Reads as reads
-use Rattle.book.proofs.pieces.finish.Lts as lts
-use Rattle.book.proofs.pieces.feed_lines.Reads as feed-lines-reads
-use Rattle.book.proofs.pieces.kept_of.Reads as kept-of-reads
 
 is-held : (c : tie.After-kept-of) → take (c .kept-of .result) (c .before .args .r .line) ≡ held (c .before .args .r)
 is-held c = kept-held _ _ _ (search needs) (c .kept-of .ensures .1)
@@ -27,23 +23,11 @@ held-size c =
     let line : length (c .before .args .r .line) ≡ 4801 = search needs in
     ap length (sym (is-held c)) ∙ length-take-le _ _ (omega (arith, c .kept-of .ensures .0))
 
-kept-of-requires : tie.Need-kept-of-requires
-kept-of-requires c κs = search needs
-
 returns : tie.Need-returns
 returns c =
     let a = c .before .before .args in
     let none = none-said (a .r .book) (held (a .r)) (held-size (c .before) ∙ c .if1 .taken) in
     (ap length (sym none), (search needs, sym (ap (λ t. put 0 t (a .out .now)) none ∙ put-nothing 0 (a .out .now))))
-
-slice-aggregate-feed-lines : tie.Need-slice-aggregate-feed-lines
-slice-aggregate-feed-lines c = search needs
-
-slice-aggregate-feed-lines-2 : tie.Need-slice-aggregate-feed-lines-2
-slice-aggregate-feed-lines-2 c = search needs
-
-feed-lines-requires : tie.Need-feed-lines-requires
-feed-lines-requires c κs = search needs
 
 returns-2 : tie.Need-returns-2
 returns-2 c =
@@ -63,9 +47,9 @@ pub finish-spec : {M : Type 1} → statement M
 finish-spec =
     tie.close
     (tie.spec
-    kept-of-requires
+    (λ c κs. search needs)
     returns
-    slice-aggregate-feed-lines
-    slice-aggregate-feed-lines-2
-    feed-lines-requires
+    (λ c. search needs)
+    (λ c. search needs)
+    (λ c κs. search needs)
     returns-2)

@@ -7,36 +7,16 @@ use borrow.Author.Needs.{needs}
 use Rattle.book.proofs.Puts.{part-put}
 use Rattle.book.proofs.put.put_text.Statement.{statement}
 use Rattle.book.proofs.put.put_text.Tie as tie
-use Rattle.book.proofs.put.put_text.Reads as reads
-use Rattle.book.proofs.put.put_text.Lts as lts
-use Rattle.bytes.proofs.copy.Reads as copy-reads
-
-sub-copy : tie.Need-sub-copy
-sub-copy c = search needs
-
-part-copy-start : tie.Need-part-copy-start
-part-copy-start c = search needs
-
-part-copy-end : tie.Need-part-copy-end
-part-copy-end c = search needs
-
-copy-requires : tie.Need-copy-requires
-copy-requires c κs = search needs
-
-add-result : tie.Need-add-result
-add-result c = search needs
-
-same-length : tie.Need-same-length
-same-length c = search needs
 
 returns : tie.Need-returns
 returns c =
     let c₁ = c .before .before in
-    let a = c₁ .before .before .before .before .args in
-    (ap (λ n. a .at + n) (c₁ .copy .ensures .0),
-    ap (λ ys. take (a .at) (a .out .now) ++ (ys ++ drop (length (a .out .now) - a .at) (drop (a .at) (a .out .now)))) (c₁ .copy .ensures .1) ∙ part-put (a .text .now) (a .out .now) (a .at) (search needs))
+    let a = c₁ .before .before .before .before .args in (
+      ap (λ n. a .at + n) (c₁ .copy .ensures .0),
+      ap (λ ys. take (a .at) (a .out .now) ++ (ys ++ drop (length (a .out .now) - a .at) (drop (a .at) (a .out .now)))) (c₁ .copy .ensures .1) ∙ part-put (a .text .now) (a .out .now) (a .at) (search needs),
+    )
 
 pub put-text-spec : {M : Type 1} → statement M
 put-text-spec =
     tie.close
-    (tie.spec sub-copy part-copy-start part-copy-end copy-requires add-result same-length returns)
+    (tie.spec (λ c. search needs) (λ c. search needs) (λ c. search needs) (λ c κs. search needs) (λ c. search needs) (λ c. search needs) returns)
