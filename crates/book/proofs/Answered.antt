@@ -26,8 +26,9 @@ use Rattle.book.specs.Put.{put}
 use Rattle.book.specs.Hex.{hexOf}
 use Rattle.book.specs.Decimal.{decimal}
 use Rattle.book.specs.Text.{tab, lineFeed}
-use Rattle.book.specs.Line.{fields, isKeyLine, asked, Asked, malformed, sealing, opening, Given}
-use Rattle.book.specs.Book.{lineNumber, roomFor, shown, answerLine, answerText, octetsWritten, badLine, sealLine, openLine, answerTo, afterAsked, begun, saysAt, nextAt, bookSays, bookNext}
+use Rattle.book.specs.Line.{fields, isKeyLine, asked, Asked, malformed, sealing, opening}
+use Rattle.book.specs.Book.{lineNumber, roomFor, shown, answerLine, badLine, sealLine, openLine, answerTo, afterAsked, begun, saysAt, nextAt, bookSays, bookNext}
+use Rattle.book.specs.Handed.{Given, answerText, octetsWritten}
 
 pub put-nothing : (at : ℕ) (o : List ℕ) → put at [] o ≡ o
 put-nothing at o = rw (add-zero at) (take-append-drop at o)

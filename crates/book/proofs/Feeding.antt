@@ -8,6 +8,7 @@ use native.Mathlib.Omega.{arith}
 use lib.ListN.{length, take, drop, length-drop, length-append}
 use lib.Seq.{take-all, take-take, length-take-le, take-add}
 use Rattle.bytes.specs.Bytes.{slice, indexOf}
+use Rattle.book.specs.Limits.{mostKept, mostAnswer}
 use Rattle.book.specs.declared.Book.{Book}
 use Rattle.book.specs.Put.{put}
 use Rattle.book.specs.Text.{lineFeed, parts}
@@ -21,15 +22,15 @@ use Rattle.book.proofs.Answered.{put-nothing}
 
 module _ (b : Book) (p piece out : List ℕ) where
   pub record Here (line out′ : List ℕ) (book : Book) (h at w : ℕ) : Type 0 where
-    pub line-size : length line ≡ 4801
-    pub small : h ≤ 4801
+    pub line-size : length line ≡ mostKept
+    pub small : h ≤ mostKept
     pub place : at ≤ length piece
     pub out-size : length out′ ≡ length out
     pub room : w ≤ length out
     pub gave : Gave b p (take at piece) out book (take h line) out′ w
 
   -- before the first line
-  pub start : (line : List ℕ) (h : ℕ) → length line ≡ 4801 → h ≤ 4801 → p ≡ take h line → Here line out b h 0 0
+  pub start : (line : List ℕ) (h : ℕ) → length line ≡ mostKept → h ≤ mostKept → p ≡ take h line → Here line out b h 0 0
   unfolding says parts
   start line h z l e =
       let before = before-any b p (omega (arith, ap length e, length-take-le h line (omega arith))) in
@@ -58,7 +59,7 @@ module _ (b : Book) (p piece out : List ℕ) where
     s = drop at piece
 
     -- the search for a line feed from `at` on, and what is then kept of the line
-    module _ (end : ℕ) (found : end ≡ at + indexOf lineFeed (slice at (length piece) piece)) (line₂ : List ℕ) (h₂ : ℕ) (z₂ : length line₂ ≡ 4801)
+    module _ (end : ℕ) (found : end ≡ at + indexOf lineFeed (slice at (length piece) piece)) (line₂ : List ℕ) (h₂ : ℕ) (z₂ : length line₂ ≡ mostKept)
         (kept : take h₂ line₂ ≡ cut (take h line ++ take (end - at) (drop at piece))) where
       abbrev n : ℕ
       n = indexOf lineFeed s
@@ -70,22 +71,29 @@ module _ (b : Book) (p piece out : List ℕ) where
       kept-is =
           let e : end - at ≡ n = omega (arith, place) in
           kept ∙ ap (λ (k : ℕ). cut (take h line ++ take k s)) e
-          ∙ cut-append (take h line) l (take n s) (ap cut (here .gave .line-is) ∙ take-take 4801 4801 l (omega arith))
+          ∙ cut-append (take h line) l (take n s) (ap cut (here .gave .line-is) ∙ take-take mostKept mostKept l (omega arith))
 
       -- there is no line feed: the rest of the piece goes on with the line
-      pub rest : end ≡ length piece → Gave b p (take end piece) out book (take h₂ line₂) out′ w
+      pub rest : h₂ ≤ mostKept → end ≡ length piece → Here line₂ out′ book h₂ end w
       unfolding says after
-      rest e =
+      rest l₂ e =
           let size : length s ≤ n = omega (arith, place, length-drop at piece) in
           let one : parts lineFeed (take n s) ≡ take n s ∷ [] = ap (parts lineFeed) (take-all n s size) ∙ parts-none lineFeed s size ∙ ap (λ (x : List ℕ). x ∷ []) (sym (take-all n s size)) in
           let two : take end piece ≡ t ++ take n s = ap (λ (k : ℕ). take k piece) place ∙ take-add at n piece in
           let lines : ended p (take end piece) ≡ ended p t = ap (ended p) two ∙ ended-append p t (take n s) ∙ rw one (append-nil (ended p t)) in
           let line-left : left p (take end piece) ≡ l ++ take n s = ap (left p) two ∙ left-append p t (take n s) ∙ rw one in
           record {
-            book-is = here .gave .book-is ∙ ap (after b) (sym lines);
-            line-is = kept-is ∙ ap cut (sym line-left);
-            room-is = here .gave .room-is ∙ ap (λ (x : List (List ℕ)). put 0 (says b x) out) (sym lines);
-            written-is = here .gave .written-is ∙ ap (λ (x : List (List ℕ)). length (says b x)) (sym lines);
+            line-size = z₂;
+            small = l₂;
+            place = omega arith;
+            out-size = here .out-size;
+            room = here .room;
+            gave = record {
+              book-is = here .gave .book-is ∙ ap (after b) (sym lines);
+              line-is = kept-is ∙ ap cut (sym line-left);
+              room-is = here .gave .room-is ∙ ap (λ (x : List (List ℕ)). put 0 (says b x) out) (sym lines);
+              written-is = here .gave .written-is ∙ ap (λ (x : List (List ℕ)). length (says b x)) (sym lines);
+            };
           }
 
       -- a line feed at `end`: the line is answered
@@ -100,7 +108,7 @@ module _ (b : Book) (p piece out : List ℕ) where
           let line-left : left p (take (end + 1) piece) ≡ [] = ap (left p) two ∙ left-append p t (take (suc n) s) ∙ rw one in
           let x : List ℕ = l ++ take n s in
           let lines : ended p (take (end + 1) piece) ≡ ended p t ++ (x ∷ []) = ap (ended p) two ∙ ended-append p t (take (suc n) s) ∙ rw one in
-          let same : cut (take h₂ line₂) ≡ cut x = ap cut kept-is ∙ take-take 4801 4801 x (omega arith) in
+          let same : cut (take h₂ line₂) ≡ cut x = ap cut kept-is ∙ take-take mostKept mostKept x (omega arith) in
           let b₁ = after b (ended p t) in
           let book-is = here .gave .book-is in
           let said : bookSays book (take h₂ line₂) ≡ bookSays b₁ x = ap (λ (y : Book). bookSays y (take h₂ line₂)) book-is ∙ same-says b₁ (take h₂ line₂) x same in
@@ -130,7 +138,7 @@ module _ (b : Book) (p piece out : List ℕ) where
     unfolding says parts
     none-yet e = here .gave .written-is ∙ ap (λ (k : ℕ). length (says b (ended p (take k piece)))) e
 
-    pub short : length out - w < 4880 → Enough (length piece) at (length out) w
+    pub short : length out - w < mostAnswer → Enough (length piece) at (length out) w
     short less =
         record {
           within = here .place;

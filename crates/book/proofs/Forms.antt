@@ -13,6 +13,7 @@ use lib.Seq.{take-all, ext-getD}
 use Rattle.ccm.specs.Ccm.{same}
 use Rattle.ccm.proofs.Laws.{same-refl, same-is}
 use Rattle.bytes.specs.Bytes.{slice, indexOf}
+use Rattle.book.specs.Limits.{mostLine}
 use Rattle.book.specs.Hex.{octetsOf}
 use Rattle.book.specs.Text.{tab, parts}
 use Rattle.book.specs.Line.{fields, sealWord, openWord, malformed, sealing, opening, askedOf, asked}
@@ -38,9 +39,9 @@ octets-differ a b i h = go (same a b) refl
 pub all-alike : (a b : List ℕ) → length a ≡ length b → ((i : ℕ) → i < length a → getD a i 0 ≡ getD b i 0) → true ≡ same a b
 all-alike a b e h = sym (ap (λ (z : List ℕ). same z b) (ext-getD 0 a b e h) ∙ same-refl b)
 
-pub too-long : (line : List ℕ) → 4800 < length line → malformed ≡ asked (fields line)
+pub too-long : (line : List ℕ) → mostLine < length line → malformed ≡ asked (fields line)
 unfolding fields asked
-too-long line h = rw (lt-ltb 4800 (length line) h)
+too-long line h = rw (lt-ltb mostLine (length line) h)
 
 module _ (word : List ℕ) where
   pub seals : same word sealWord ≡ true → (f : List ℕ) → sealing f ≡ askedOf word (some f)
@@ -80,13 +81,13 @@ two-fields word s = go (octetsOf s) refl
         (λ h. let q = parts-some tab (drop (suc (indexOf tab s)) s) in more (take (indexOf tab s) s) (q .0) (q .1 .0) (parts-found tab s h ∙ ap (λ (r : List (List ℕ)). take (indexOf tab s) s ∷ r) (q .1 .1)))
         (le-or (length s) (indexOf tab s))
 
-module _ (line : List ℕ) (fits : length line ≤ 4800) (end : ℕ) (found : end ≡ 0 + indexOf tab (slice 0 (length line) line)) where
+module _ (line : List ℕ) (fits : length line ≤ mostLine) (end : ℕ) (found : end ≡ 0 + indexOf tab (slice 0 (length line) line)) where
   place : end ≡ indexOf tab line
   place = let e : 0 + indexOf tab line ≡ indexOf tab line = omega arith in found ∙ ap (λ (s : List ℕ). 0 + indexOf tab s) (whole-slice line 0) ∙ e
 
   pub no-tab : end ≡ length line → malformed ≡ asked (fields line)
   unfolding fields asked
-  no-tab e = rw (le-ltb 4800 (length line) fits, parts-none tab line (omega (arith, place)))
+  no-tab e = rw (le-ltb mostLine (length line) fits, parts-none tab line (omega (arith, place)))
 
   -- the word, and what its text after the tab reads as
   pub asked-is : end < length line → (o : Option (List ℕ)) → o ≡ octetsOf (take (length line - (end + 1)) (drop (end + 1) line))
@@ -98,4 +99,4 @@ module _ (line : List ℕ) (fits : length line ≤ 4800) (end : ℕ) (found : en
       ap (askedOf (take end line)) (e ∙ ap octetsOf rest)
       ∙ sym (two-fields (take end line) (drop (suc end) line))
       ∙ ap (λ (n : ℕ). asked (take n line ∷ parts tab (drop (suc n) line))) place
-      ∙ rw (le-ltb 4800 (length line) fits) (ap asked (sym (parts-found tab line (omega (arith, place)))))
+      ∙ rw (le-ltb mostLine (length line) fits) (ap asked (sym (parts-found tab line (omega (arith, place)))))

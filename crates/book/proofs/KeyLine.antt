@@ -16,10 +16,12 @@ use Rattle.rules.specs.Sealing.{contents}
 use Rattle.rules.specs.Opening.{isNone}
 use Rattle.rules.proofs.Passing.{both}
 use Rattle.bytes.specs.Bytes.{slice, indexOf}
+use Rattle.book.specs.Limits.{mostLine}
 use Rattle.book.specs.declared.line.Keys.{Keys}
 use Rattle.book.specs.Hex.{digit, octetsOf}
 use Rattle.book.specs.Text.{tab, parts}
-use Rattle.book.specs.Line.{fields, field, keyWord, isHex, isKeyId, isKeyLine, KeyTabs, Given}
+use Rattle.book.specs.Line.{fields, field, keyWord, isHex, isKeyId, isKeyLine}
+use Rattle.book.specs.Handed.{KeyTabs, Given}
 use Rattle.book.proofs.Hexadecimals.{length-digits}
 use Rattle.book.proofs.Held.{le-or}
 use Rattle.book.proofs.Forms.{one-field}
@@ -118,7 +120,7 @@ after-tab s w q qs i n j l k e =
 
 in-parts : (line : List ℕ) → length (fields line) ≡ 5 → parts tab line ≡ fields line
 unfolding fields
-in-parts line = go (ltb 4800 (length line))
+in-parts line = go (ltb mostLine (length line))
   where
     go : (b : Bool) → length (cond b [] (parts tab line)) ≡ 5 → parts tab line ≡ cond b [] (parts tab line)
     go true e = absurd (omega arith)
@@ -155,7 +157,7 @@ tabs-of line p =
     record {
       size = p .size;
       placed =
-          rw (le-ltb 4800 (length line) (omega (arith, p .size)))
+          rw (le-ltb mostLine (length line) (omega (arith, p .size)))
           (part-to line 0 3 4 (p .tab-0) (omega arith) (omega (arith, p .size))
           ∙ ap (λ (r : List (List ℕ)). take 3 line ∷ r)
           (part-to line 4 32 37 (p .tab-1) (omega arith) (omega (arith, p .size))

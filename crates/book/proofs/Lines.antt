@@ -6,10 +6,12 @@ use native.Mathlib.Omega.{arith}
 use lib.ListN.{length, take, length-append}
 use lib.Seq.{length-take-le}
 use Rattle.rules.specs.declared.Answer.the-variants.{Done, Refused}
+use Rattle.book.specs.Limits.{mostAnswer, mostResult}
 use Rattle.book.specs.Put.{put}
 use Rattle.book.specs.Hex.{hexOf}
 use Rattle.book.specs.Decimal.{decimal}
-use Rattle.book.specs.Book.{badLine, answerText}
+use Rattle.book.specs.Book.{badLine}
+use Rattle.book.specs.Handed.{answerText}
 use Rattle.book.proofs.Decimals.{length-decimal, decimal-small}
 use Rattle.book.proofs.Hexadecimals.{length-hex}
 use Rattle.book.proofs.Puts.{as-text, Laid, laid-more}
@@ -17,7 +19,7 @@ use Rattle.book.proofs.Puts.{as-text, Laid, laid-more}
 laid-as : (at : ℕ) (o t u out : List ℕ) (end : ℕ) → t ≡ u → Laid at o t out end → (end ≡ at + length u) × (out ≡ put at u o)
 laid-as at o t u out end e h = as-text at o t u out end e (h .ends, h .is)
 
-module _ (n at : ℕ) (o : List ℕ) (room : at + 4880 ≤ length o) (o₁ : List ℕ) (e₁ : ℕ) (p₁ : o₁ ≡ put at (decimal n) o) (q₁ : e₁ ≡ at + length (decimal n)) where
+module _ (n at : ℕ) (o : List ℕ) (room : at + mostAnswer ≤ length o) (o₁ : List ℕ) (e₁ : ℕ) (p₁ : o₁ ≡ put at (decimal n) o) (q₁ : e₁ ≡ at + length (decimal n)) where
   number : Laid at o (decimal n) o₁ e₁
   number = record { is = p₁; ends = q₁ }
 
@@ -35,7 +37,7 @@ module _ (n at : ℕ) (o : List ℕ) (room : at + 4880 ≤ length o) (o₁ : Lis
     worded-size : length (decimal n ++ word) ≤ 26
     worded-size = omega (arith, short, length-append (decimal n) word)
 
-    pub done-laid : (m p k : ℕ) (result : List ℕ) → k ≤ 2416 → k ≤ length result
+    pub done-laid : (m p k : ℕ) (result : List ℕ) → k ≤ mostResult → k ≤ length result
         → (o₃ : List ℕ) (e₃ : ℕ) → o₃ ≡ put e₂ (48 ∷ 9 ∷ []) o₂ → e₃ ≡ e₂ + 2
         → (o₄ : List ℕ) (e₄ : ℕ) → o₄ ≡ put e₃ (hexOf (take k result)) o₃ → e₄ ≡ e₃ + 2 * length (take k result)
         → (o₅ : List ℕ) (e₅ : ℕ) → o₅ ≡ put e₄ (10 ∷ []) o₄ → e₅ ≡ e₄ + 1

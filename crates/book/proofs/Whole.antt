@@ -5,6 +5,7 @@ use Prim.Native.Nat.{ℕ, suc, _≤_}
 use native.Mathlib.Omega.{arith}
 use lib.ListN.{length, take}
 use lib.Seq.{take-take, take-all}
+use Rattle.book.specs.Limits.{mostKept, mostLine}
 use Rattle.book.specs.declared.Book.{Book}
 use Rattle.book.specs.Text.{lineFeed, prefix, parts, allButLast, lastOf, unended, lines}
 use Rattle.book.specs.Book.{newBook, bookSays, bookNext}
@@ -82,15 +83,15 @@ module _ (p q : List ℕ) (e : cut p ≡ cut q) where
       go s (s′ ∷ ss) = refl
 
 -- before any piece
-pub before-any : (b : Book) (p : List ℕ) → length p ≤ 4801 → (b ≡ after b (ended p [])) × (p ≡ cut (left p []))
+pub before-any : (b : Book) (p : List ℕ) → length p ≤ mostKept → (b ≡ after b (ended p [])) × (p ≡ cut (left p []))
 unfolding after parts
-before-any b p l = (refl, sym (ap cut (append-nil p) ∙ take-all 4801 p l))
+before-any b p l = (refl, sym (ap cut (append-nil p) ∙ take-all mostKept p l))
 
 -- a piece, and another after it
 pub another : (b : Book) (p t : List ℕ) (b₁ : Book) (q u : List ℕ) → b₁ ≡ after b (ended p t) → q ≡ cut (left p t)
     → (after b₁ (ended q u) ≡ after b (ended p (t ++ u))) × (cut (left q u) ≡ cut (left p (t ++ u)))
 another b p t b₁ q u be qe =
-    let e : cut q ≡ cut (left p t) = ap cut qe ∙ take-take 4801 4801 (left p t) (omega arith) in (
+    let e : cut q ≡ cut (left p t) = ap cut qe ∙ take-take mostKept mostKept (left p t) (omega arith) in (
       ap (λ (x : Book). after x (ended q u)) be ∙ after-cut q (left p t) e (after b (ended p t)) u
           ∙ sym (ap (after b) (ended-append p t u) ∙ after-append (ended p t) (ended (left p t) u) b),
       left-cut q (left p t) e u ∙ ap cut (sym (left-append p t u)),
@@ -105,8 +106,8 @@ line-feed b (x ∷ p) h = ap (λ (l : List ℕ). says b ((x ∷ l) ∷ [])) (app
 last-cut : (b : Book) (p q : List ℕ) → cut p ≡ cut q → says b (unended p) ≡ says b (unended q)
 unfolding says
 last-cut b [] [] e = refl
-last-cut b [] (y ∷ q) e = absurd (let z : _≡_ {A = ℕ} 0 (suc (length (take 4800 q))) = ap length e in omega arith)
-last-cut b (x ∷ p) [] e = absurd (let z : _≡_ {A = ℕ} (suc (length (take 4800 p))) 0 = ap length e in omega arith)
+last-cut b [] (y ∷ q) e = absurd (let z : _≡_ {A = ℕ} 0 (suc (length (take mostLine q))) = ap length e in omega arith)
+last-cut b (x ∷ p) [] e = absurd (let z : _≡_ {A = ℕ} (suc (length (take mostLine p))) 0 = ap length e in omega arith)
 last-cut b (x ∷ p) (y ∷ q) e = ap (λ (l : List ℕ). l ++ []) (same-says b (x ∷ p) (y ∷ q) e)
 
 from-any : (ts : List (List ℕ)) (b : Book) (p q : List ℕ) → cut p ≡ cut q → fedOutput b p ts ≡ says b (ended q (joined ts) ++ unended (left q (joined ts)))
@@ -116,7 +117,7 @@ from-any (t ∷ ts) b p q e =
     let rest = ended (left q t) (joined ts) ++ unended (left (left q t) (joined ts)) in
     ap₂ (λ (x : List ℕ) (b′ : Book). x ++ fedOutput b′ (cut (left p t)) ts) (says-cut p q e b t) (after-cut p q e b t)
     ∙ ap (λ (x : List ℕ). says b (ended q t) ++ x)
-    (from-any ts (after b (ended q t)) (cut (left p t)) (left q t) (take-take 4801 4801 (left p t) (omega arith) ∙ left-cut p q e t))
+    (from-any ts (after b (ended q t)) (cut (left p t)) (left q t) (take-take mostKept mostKept (left p t) (omega arith) ∙ left-cut p q e t))
     ∙ sym (says-append (ended q t) rest b)
     ∙ ap (says b) (sym (append-assoc (ended q t) (ended (left q t) (joined ts)) (unended (left (left q t) (joined ts))))
     ∙ ap₂ (λ (x : List (List ℕ)) (y : List ℕ). x ++ unended y) (sym (ended-append q t (joined ts))) (sym (left-append q t (joined ts))))

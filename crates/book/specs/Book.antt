@@ -1,6 +1,6 @@
 -- Document 01, "The frame book": what a book writes to a line, and the book after it.
 use mathlib.Core.Bool.{cond}
-use mathlib.Core.List.{List, [], _∷_, _++_}
+use mathlib.Core.List.{List, [], _∷_}
 use Prim.Native.Nat.{ℕ, _+_, _%_, _^_}
 use lib.ListN.{length, take, getD, replicate}
 use Rattle.rules.specs.Limits.{added}
@@ -17,7 +17,7 @@ use Rattle.book.specs.declared.Stage.{Stage}
 use Rattle.book.specs.declared.Stage.the-variants.{First, Going, Ended}
 use Rattle.book.specs.Decimal.{decimal}
 use Rattle.book.specs.Hex.{digit, hexOf, octetsOf}
-use Rattle.book.specs.Text.{tab, lineFeed, lineOf}
+use Rattle.book.specs.Text.{lineOf}
 use Rattle.book.specs.Line.{fields, field, sealWord, openWord, isKeyLine, Asked, malformed, sealing, opening, asked}
 
 -- before line 1
@@ -49,14 +49,6 @@ shown (Refused a) output = 45 ∷ []
 -- line number, word, answer number, result frame or `-`
 unfoldable pub answerLine : ℕ → List ℕ → Answer → List ℕ → List ℕ
 answerLine n word a output = lineOf (decimal n ∷ word ∷ decimal (answerNumber a) ∷ shown a output ∷ [])
-
--- the same, the word being between its tabs
-abbrev pub answerText : ℕ → List ℕ → Answer → List ℕ → List ℕ
-answerText n word a output = decimal n ++ (word ++ (decimal (answerNumber a) ++ (tab ∷ (shown a output ++ (lineFeed ∷ [])))))
-
-abbrev pub octetsWritten : Answer → ℕ
-octetsWritten (Done n p k) = k
-octetsWritten (Refused a) = 0
 
 -- the answers to a frame sealed, and to one opened
 unfoldable pub sealLine : ℕ → Sender → List ℕ → List ℕ

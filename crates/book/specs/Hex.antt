@@ -4,9 +4,6 @@ use mathlib.Core.List.{List, [], _∷_, _++_}
 use mathlib.Core.Option.{Option, none, some}
 use Prim.Native.Nat.{ℕ, _+_, _-_, _*_, _/_, _%_}
 use lib.Dec.{ltb, leb}
-use lib.ListN.{take}
-use Rattle.book.specs.declared.hex.Read.{Read}
-use Rattle.book.specs.declared.hex.Read.the-variants.{Octets, Malformed}
 
 -- the digit of a number below 16: `0` to `9` are the octets 48 to 57, `a` to `f` are 97 to 102
 abbrev pub letter : ℕ → ℕ
@@ -31,13 +28,3 @@ unfoldable pub octetsOf : List ℕ → Option (List ℕ)
 octetsOf [] = some []
 octetsOf (x ∷ []) = none
 octetsOf (x ∷ y ∷ t) = cond (ltb (digit x) 16 && ltb (digit y) 16) (before ((16 * digit x + digit y) ∷ []) (octetsOf t)) none
-
--- what a reading into out found
-abbrev pub readIn : Read → List ℕ → Option (List ℕ)
-readIn Malformed out = none
-readIn (Octets n) out = some (take n out)
-
--- how many octets it found
-abbrev pub countIn : Read → ℕ
-countIn Malformed = 0
-countIn (Octets n) = n

@@ -1,3 +1,4 @@
+pub mod Limits
 pub mod Put
 pub mod Hex
 pub mod Decimal
@@ -5,3 +6,4 @@ pub mod Text
 pub mod Line
 pub mod Book
 pub mod Pieces
+pub mod Handed

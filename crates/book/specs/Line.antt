@@ -1,24 +1,16 @@
 -- Document 01, "The frame book": the forms of a line.
-use mathlib.Core.Path.{_≡_}
 use mathlib.Core.Bool.{Bool, false, cond, not, _&&_}
 use mathlib.Core.List.{List, [], _∷_}
 use mathlib.Core.Option.{Option, none, some}
 use Prim.Native.Nat.{ℕ, _*_}
 use lib.Dec.{ltb, leb, eqb}
-use lib.ListN.{length, take, drop, getD}
+use lib.ListN.{length, getD}
 use Rattle.ccm.specs.Ccm.{same}
 use Rattle.rules.specs.Limits.{mostKeyId}
 use Rattle.rules.specs.Opening.{isNone}
-use Rattle.rules.specs.Sealing.{contents}
-use Rattle.book.specs.declared.line.Keys.{Keys}
-use Rattle.book.specs.declared.line.Request.{Request}
-use Rattle.book.specs.declared.line.Request.the-variants.{Malformed, Seal, Open}
+use Rattle.book.specs.Limits.{mostLine}
 use Rattle.book.specs.Hex.{digit, octetsOf}
 use Rattle.book.specs.Text.{tab, parts}
-
--- the octets of a line without its line feed
-abbrev pub mostLine : ℕ
-mostLine = 4800
 
 -- the fields of a line; one that is too long has none
 unfoldable pub fields : List ℕ → List (List ℕ)
@@ -65,26 +57,3 @@ askedOf word (some frame) = cond (same word sealWord) (sealing frame) (cond (sam
 
 unfoldable pub asked : List (List ℕ) → Asked
 asked fs = cond (eqb (length fs) 2) (askedOf (field fs 0) (octetsOf (field fs 1))) malformed
-
--- what a request asks, its frame being in the front of a room
-abbrev pub requestIn : Request → List ℕ → Asked
-requestIn Malformed room = malformed
-requestIn (Seal n) room = sealing (take n room)
-requestIn (Open n) room = opening (take n room)
-
-abbrev pub frameIn : Request → ℕ
-frameIn Malformed = 0
-frameIn (Seal n) = n
-frameIn (Open n) = n
-
--- the fields of line 1, but for the last, by the places of its tabs
-pub record KeyTabs (line : List ℕ) : Type 0 where
-  pub size : length line ≡ 64
-  pub placed : fields line ≡ take 3 line ∷ take 32 (drop 4 line) ∷ take 1 (drop 37 line) ∷ take 12 (drop 39 line) ∷ parts tab (drop 52 line)
-
--- what the fields of a good line 1 give
-pub record Given (fs : List (List ℕ)) (k : Keys) : Type 0 where
-  pub key-is : k .key ≡ contents (octetsOf (field fs 1))
-  pub key-id-is : k .«key_id» ≡ digit (getD (field fs 2) 0 0)
-  pub own-is : k .own ≡ contents (octetsOf (field fs 3))
-  pub peer-is : k .peer ≡ contents (octetsOf (field fs 4))

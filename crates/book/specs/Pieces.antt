@@ -3,6 +3,7 @@ use mathlib.Core.Path.{_≡_}
 use mathlib.Core.List.{List, [], _∷_, _++_}
 use Prim.Native.Nat.{ℕ, _+_, _≤_, _<_}
 use lib.ListN.{length, take}
+use Rattle.book.specs.Limits.{mostKept, mostAnswer}
 use Rattle.book.specs.declared.Book.{Book}
 use Rattle.book.specs.declared.Reader.{Reader}
 use Rattle.book.specs.Put.{put}
@@ -24,7 +25,7 @@ bookOutput text = says newBook (lines text)
 
 -- what is kept of a line that has not ended: one octet more than a line may have
 abbrev pub cut : List ℕ → List ℕ
-cut line = take 4801 line
+cut line = take mostKept line
 
 abbrev pub held : Reader → List ℕ
 held r = take (r .length) (r .line)
@@ -60,5 +61,5 @@ pub record Gave (b : Book) (line piece room : List ℕ) (b′ : Book) (line′ r
 pub record Enough (piece taken room written : ℕ) : Type 0 where
   pub within : taken ≤ piece
   pub fits : written ≤ room
-  pub whole : taken < piece → room < written + 4880
-  pub some : 0 < piece → 4880 ≤ room → 0 < taken
+  pub whole : taken < piece → room < written + mostAnswer
+  pub some : 0 < piece → mostAnswer ≤ room → 0 < taken

@@ -3,6 +3,7 @@ use crate::Book;
 use crate::Stage;
 use crate::decimal::put_decimal;
 use crate::hex::put_hex;
+use crate::line::MOST_LINE;
 use crate::line::keys_of;
 use crate::put::put_text;
 use rules::Answer;
@@ -14,12 +15,18 @@ ghost use lib.ListN.{length};
 ghost use Rattle.rules.specs.Records.{senderNext, receiverNext};
 ghost use Rattle.rules.specs.Sealing.{sealAnswer};
 ghost use Rattle.rules.specs.Opening.{openAnswer};
+ghost use Rattle.book.specs.Limits.{mostAnswer, mostResult, mostFrame};
 ghost use Rattle.book.specs.Put.{put};
 ghost use Rattle.book.specs.Line.{fields};
-ghost use Rattle.book.specs.Book.{roomFor, badLine, answerText, octetsWritten, sealLine, openLine, begun, saysAt};
+ghost use Rattle.book.specs.Book.{roomFor, badLine, sealLine, openLine, begun, saysAt};
+ghost use Rattle.book.specs.Handed.{answerText, octetsWritten};
 
-// The octets of an answer at most.
-pub(crate) const MOST_ANSWER: usize = 4880;
+// The octets of a line's frame at most, of its result, and of the answer.
+pub(crate) const MOST_FRAME: usize = MOST_LINE / 2;
+
+pub(crate) const MOST_RESULT: usize = MOST_FRAME + 16;
+
+pub const MOST_ANSWER: usize = 2 * MOST_RESULT + 48;
 
 // The sender, the receiver or the book after a line, and the place after what was written.
 pub struct SealTurn {
@@ -39,7 +46,7 @@ pub struct Turn {
 
 // The answer to a bad line.
 pub(crate) fn put_bad(n: u64, out: &mut [u8], at: usize) -> usize
-    requires { ⌜ at + 4880 ≤ length (now out) ⌝ }
+    requires { ⌜ at + mostAnswer ≤ length (now out) ⌝ }
     ensures { λ r. ⌜ r ≡ at + length (badLine n) ⌝ }
     ensures { λ _. ⌜ now (out .exit) ≡ put at (badLine n) (now (out .entry)) ⌝ }
 {
@@ -49,8 +56,8 @@ pub(crate) fn put_bad(n: u64, out: &mut [u8], at: usize) -> usize
 
 // A line number, a word between tabs, an answer's number, and the frame in the front of result or `-`.
 fn put_answer(n: u64, word: &[u8], a: Answer, result: &[u8], out: &mut [u8], at: usize) -> usize
-    requires { ⌜ (at + 4880 ≤ length (now out)) × (length (now word) ≡ 6) ⌝ }
-    requires { ⌜ (octetsWritten a ≤ length (now result)) × (length (now result) ≡ 2416) ⌝ }
+    requires { ⌜ (at + mostAnswer ≤ length (now out)) × (length (now word) ≡ 6) ⌝ }
+    requires { ⌜ (octetsWritten a ≤ length (now result)) × (length (now result) ≡ mostResult) ⌝ }
     ensures { λ r. ⌜ r ≡ at + length (answerText n (now (word .entry)) a (now (result .entry))) ⌝ }
     ensures { λ _. ⌜ now (out .exit) ≡ put at (answerText n (now (word .entry)) a (now (result .entry))) (now (out .entry)) ⌝ }
 {
@@ -78,7 +85,7 @@ pub(crate) fn seal_line(
     out: &mut [u8],
     at: usize,
 ) -> SealTurn
-    requires { ⌜ (at + 4880 ≤ length (now out)) × (length (now frame) ≤ 2400) × (length (now result) ≡ 2416) ⌝ }
+    requires { ⌜ (at + mostAnswer ≤ length (now out)) × (length (now frame) ≤ mostFrame) × (length (now result) ≡ mostResult) ⌝ }
     ensures { λ r. ⌜ r .sender ≡ senderNext s (sealAnswer s (now (frame .entry)) (roomFor (now (frame .entry)))) ⌝ }
     ensures { λ r. ⌜ r .end ≡ at + length (sealLine n s (now (frame .entry))) ⌝ }
     ensures { λ _. ⌜ now (out .exit) ≡ put at (sealLine n s (now (frame .entry))) (now (out .entry)) ⌝ }
@@ -99,7 +106,7 @@ pub(crate) fn open_line(
     out: &mut [u8],
     at: usize,
 ) -> OpenTurn
-    requires { ⌜ (at + 4880 ≤ length (now out)) × (length (now frame) ≤ 2400) × (length (now result) ≡ 2416) ⌝ }
+    requires { ⌜ (at + mostAnswer ≤ length (now out)) × (length (now frame) ≤ mostFrame) × (length (now result) ≡ mostResult) ⌝ }
     ensures { λ o. ⌜ o .receiver ≡ receiverNext r (openAnswer r (now (frame .entry)) (roomFor (now (frame .entry)))) ⌝ }
     ensures { λ o. ⌜ o .end ≡ at + length (openLine n r (now (frame .entry))) ⌝ }
     ensures { λ _. ⌜ now (out .exit) ≡ put at (openLine n r (now (frame .entry))) (now (out .entry)) ⌝ }
@@ -113,7 +120,7 @@ pub(crate) fn open_line(
 
 // Line 1.
 pub(crate) fn first_line(b: Book, line: &[u8], out: &mut [u8], at: usize) -> Turn
-    requires { ⌜ at + 4880 ≤ length (now out) ⌝ }
+    requires { ⌜ at + mostAnswer ≤ length (now out) ⌝ }
     ensures { λ r. ⌜ r .book ≡ begun b (fields (now (line .entry))) ⌝ }
     ensures { λ r. ⌜ r .end ≡ at + length (saysAt Stage.First b (fields (now (line .entry)))) ⌝ }
     ensures { λ _. ⌜ now (out .exit) ≡ put at (saysAt Stage.First b (fields (now (line .entry)))) (now (out .entry)) ⌝ }

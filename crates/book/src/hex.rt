@@ -2,8 +2,9 @@
 ghost use mathlib.Core.Path.{_≡_};
 ghost use Prim.Native.Nat.{_+_, _*_, _≤_, _<_};
 ghost use lib.ListN.{length};
-ghost use Rattle.book.specs.Hex.{letter, digit, hexOf, octetsOf, readIn, countIn};
+ghost use Rattle.book.specs.Hex.{letter, digit, hexOf, octetsOf};
 ghost use Rattle.book.specs.Put.{put};
+ghost use Rattle.book.specs.Handed.{readIn, countIn};
 
 // How many octets digits write, or that they write none.
 pub enum Read {

@@ -1,4 +1,5 @@
 // Document 01's frame book: a text of lines in, a line of answer for each, however the text comes in pieces.
+use pieces::MOST_KEPT;
 use rules::Receiver;
 use rules::Sender;
 
@@ -9,6 +10,7 @@ mod line; // line.rt: the forms of a line
 mod answer; // answer.rt: a book's answer to a line
 mod pieces; // pieces.rt: a text in pieces
 
+pub use answer::MOST_ANSWER;
 pub use pieces::Fed;
 pub use pieces::feed;
 pub use pieces::finish;
@@ -33,6 +35,6 @@ pub struct Book {
 // A book and the front of the line that has not ended yet.
 pub struct Reader {
     pub book: Book,
-    pub line: [u8; 4801],
+    pub line: [u8; MOST_KEPT],
     pub length: usize,
 }

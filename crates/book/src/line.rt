@@ -9,12 +9,15 @@ ghost use lib.ListN.{length};
 ghost use Rattle.ccm.specs.Ccm.{same};
 ghost use Rattle.rules.specs.Sealing.{contents};
 ghost use Rattle.rules.specs.Opening.{isNone};
+ghost use Rattle.book.specs.Limits.{mostFrame};
 ghost use Rattle.book.specs.Hex.{octetsOf};
-ghost use Rattle.book.specs.Line.{fields, isKeyLine, asked, requestIn, frameIn, KeyTabs, Given};
+ghost use Rattle.book.specs.Line.{fields, isKeyLine, asked};
+ghost use Rattle.book.specs.Handed.{requestIn, frameIn, KeyTabs, Given};
 
 const TAB: u8 = 9;
 
-const MOST_LINE: usize = 4800;
+// The octets of a line without its line feed.
+pub(crate) const MOST_LINE: usize = 4800;
 
 const MOST_KEY_ID: u8 = 3;
 
@@ -53,9 +56,9 @@ fn is_word(field: &[u8], word: &[u8]) -> bool
 
 // What a line after the first asks. Its frame goes into the front of the room.
 pub(crate) fn request_of(line: &[u8], frame: &mut [u8]) -> Request
-    requires { ⌜ length (now frame) ≡ 2400 ⌝ }
+    requires { ⌜ length (now frame) ≡ mostFrame ⌝ }
     ensures { λ r. ⌜ requestIn r (now (frame .exit)) ≡ asked (fields (now (line .entry))) ⌝ }
-    ensures { λ r. ⌜ frameIn r ≤ 2400 ⌝ }
+    ensures { λ r. ⌜ frameIn r ≤ mostFrame ⌝ }
 {
     let n = line.len();
     if MOST_LINE < n {

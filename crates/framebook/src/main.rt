@@ -1,5 +1,6 @@
 // The frame book: standard input to standard output, in large pieces.
 use book::Book;
+use book::MOST_ANSWER;
 use book::Reader;
 use book::Stage;
 use libc::STDIN_FILENO;
@@ -8,6 +9,7 @@ ghost use mathlib.Core.Path.{_≡_};
 ghost use Prim.Native.Nat.{_≤_};
 ghost use mathlib.Core.Bool.{true};
 ghost use lib.ListN.{length};
+ghost use Rattle.book.specs.Limits.{mostAnswer};
 ghost use Rattle.book.specs.Pieces.{after, cut, held, ended, left};
 
 const PIECE: usize = 65536;
@@ -20,7 +22,7 @@ pub struct Step {
 
 // Writes the answers to the lines that a piece ends, as much at a time as there is room for. No part of the piece is lost.
 fn feed_all(r: Reader, piece: &[u8], out: &mut [u8]) -> Step
-    requires { ⌜ 4880 ≤ length (now out) ⌝ }
+    requires { ⌜ mostAnswer ≤ length (now out) ⌝ }
     ensures { λ s. ⌜ (s .wrote ≡ true → s .reader .book ≡ after (r .book) (ended (held r) (now (piece .entry)))) ⌝ }
     ensures { λ s. ⌜ (s .wrote ≡ true → held (s .reader) ≡ cut (left (held r) (now (piece .entry)))) ⌝ }
 {
@@ -55,7 +57,7 @@ fn is_ended(b: Book) -> bool {
 
 // Reads to the end of the input, or to a bad line 1, or until nothing can be written.
 fn run(piece: &mut [u8], out: &mut [u8])
-    requires { ⌜ 4880 ≤ length (now out) ⌝ }
+    requires { ⌜ mostAnswer ≤ length (now out) ⌝ }
 {
     let mut reader = book::new_reader();
     let mut turns: u64 = 0xffff_ffff_ffff_ffff;
@@ -63,15 +65,18 @@ fn run(piece: &mut [u8], out: &mut [u8])
         let got = libc::read(STDIN_FILENO, piece);
         let n = io::count(got, piece);
         let s = feed_all(reader, &piece[..n], out);
+        if !s.wrote {
+            return;
+        }
         let next = s.reader;
         reader = next;
-        if 0 < n && s.wrote && !is_ended(next.book) {
+        if 0 < n && !is_ended(next.book) {
             turns -= 1;
         } else {
             turns = 0;
         }
     }
-    let mut last = [0u8; 4880];
+    let mut last = [0u8; MOST_ANSWER];
     let written = book::finish(reader, &mut last);
     io::write_all(STDOUT_FILENO, &last[..written]);
 }

@@ -7,6 +7,7 @@ use native.Mathlib.Omega.{arith}
 use lib.ListN.{length, take, drop, length-take, length-drop}
 use lib.Seq.{length-take-le, take-all, take-add}
 use borrow.Author.Needs.{needs}
+use Rattle.book.specs.Limits.{mostAnswer}
 use Rattle.book.specs.Pieces.{after, cut, held, ended, left}
 use Rattle.book.proofs.Whole.{before-any, another}
 use Rattle.framebook.proofs.feed_all.Statement.{statement}
@@ -14,7 +15,7 @@ use Rattle.framebook.proofs.feed_all.Tie as tie
 
 abbrev Inv-loop : tie.InvT-loop
 Inv-loop piece out₀ reader₀ at₀ out reader at =
-    (at ≤ length piece) × ((4880 ≤ length out₀) × (length out ≡ length out₀)) × (reader .book ≡ after (reader₀ .book) (ended (held reader₀) (take at piece))) × (held reader ≡ cut (left (held reader₀) (take at piece)))
+    (at ≤ length piece) × ((mostAnswer ≤ length out₀) × (length out ≡ length out₀)) × (reader .book ≡ after (reader₀ .book) (ended (held reader₀) (take at piece))) × (held reader ≡ cut (left (held reader₀) (take at piece)))
 
 abbrev μ-loop : tie.MeasureT-loop
 μ-loop piece out₀ reader₀ at₀ out reader at = length piece - at
@@ -35,6 +36,9 @@ loop-holds c =
     let line : length (a .r .line) ≡ 4801 = search needs in
     let before = before-any (a .r .book) (held (a .r)) (omega (arith, length-take (a .r .length) (a .r .line))) in
     (search needs, search needs, before .0, before .1)
+
+slice-reshare-prefix-write-all : tie.Need-slice-reshare-prefix-write-all Inv-loop μ-loop
+slice-reshare-prefix-write-all c = search needs
 
 slice-aggregate-write-all : tie.Need-slice-aggregate-write-all Inv-loop μ-loop
 slice-aggregate-write-all c = sym (length-take-le _ _ (slice-reshare-prefix-write-all (c .before)))

@@ -4,11 +4,12 @@ use Prim.Native.Nat.{_≤_}
 use lib.ListN.{length}
 use lib.Seq.{length-take-le}
 use borrow.Author.Needs.{needs}
+use Rattle.book.specs.Limits.{mostAnswer}
 use Rattle.framebook.proofs.run.Statement.{statement}
 use Rattle.framebook.proofs.run.Tie as tie
 
 abbrev Inv-loop : tie.InvT-loop
-Inv-loop piece₀ out₀ reader₀ turns₀ piece out reader turns = (length piece ≡ length piece₀) × (length out ≡ length out₀) × (4880 ≤ length out₀)
+Inv-loop piece₀ out₀ reader₀ turns₀ piece out reader turns = (length piece ≡ length piece₀) × (length out ≡ length out₀) × (mostAnswer ≤ length out₀)
 
 abbrev μ-loop : tie.MeasureT-loop
 μ-loop piece₀ out₀ reader₀ turns₀ piece out reader turns = turns
@@ -32,6 +33,9 @@ run-spec =
     (λ c. search needs)
     (λ c. search needs)
     (λ c κs. search needs)
+    (λ c. search needs)
+    (λ c. search needs)
+    (λ c. search needs)
     (λ c κs. search needs)
     (λ c. search needs)
     (λ c. search needs)

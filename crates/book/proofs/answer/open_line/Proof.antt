@@ -5,13 +5,14 @@ use native.Mathlib.Omega.{arith}
 use lib.ListN.{length}
 use borrow.Author.Needs.{needs}
 use Rattle.rules.specs.Records.{receiverNext}
-use Rattle.book.specs.Book.{octetsWritten}
+use Rattle.book.specs.Limits.{mostResult}
+use Rattle.book.specs.Handed.{octetsWritten}
 use Rattle.book.proofs.Answered.{opened-fits, opens-alike, open-line}
 use Rattle.book.proofs.Puts.{as-text}
 use Rattle.book.proofs.answer.open_line.Statement.{statement}
 use Rattle.book.proofs.answer.open_line.Tie as tie
 
-fits : (c : tie.After-open) → octetsWritten (c .«open» .result .answer) ≤ 2416
+fits : (c : tie.After-open) → octetsWritten (c .«open» .result .answer) ≤ mostResult
 fits c =
     let c₀ = c .before .before .before .before .before in
     let a = c₀ .args in

@@ -5,7 +5,7 @@ use native.Mathlib.Omega.{arith}
 use lib.ListN.{length, take}
 use lib.Seq.{length-take-le}
 use borrow.Author.Needs.{needs}
-use Rattle.book.specs.Book.{octetsWritten}
+use Rattle.book.specs.Handed.{octetsWritten}
 use Rattle.book.proofs.Decimals.{length-decimal}
 use Rattle.book.proofs.Lines.{done-laid, refused-laid}
 use Rattle.book.proofs.answer.put_answer.Statement.{statement}

@@ -6,7 +6,7 @@ use native.Mathlib.Omega.{arith}
 use lib.ListN.{length}
 use borrow.Author.Needs.{needs}
 use borrow.Author.Tests.{not-true, not-false}
-use Rattle.book.specs.Line.{KeyTabs}
+use Rattle.book.specs.Handed.{KeyTabs}
 use Rattle.book.proofs.KeyLine.{refused, never, wrong-word, wrong-key, wrong-id, wrong-own, wrong-peer, good-line}
 use Rattle.book.proofs.line.keys_of.Statement.{statement}
 use Rattle.book.proofs.line.keys_of.Tie as tie

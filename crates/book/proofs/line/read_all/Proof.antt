@@ -2,7 +2,7 @@
 use mathlib.Core.Path.{sym, ap, _∙_}
 use native.Mathlib.Omega.{arith}
 use borrow.Author.Needs.{needs}
-use Rattle.book.specs.Hex.{readIn, countIn}
+use Rattle.book.specs.Handed.{readIn, countIn}
 use Rattle.book.proofs.KeyLine.{none-read, all-read}
 use Rattle.book.proofs.line.read_all.Statement.{statement}
 use Rattle.book.proofs.line.read_all.Tie as tie

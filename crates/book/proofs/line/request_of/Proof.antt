@@ -7,8 +7,9 @@ use native.Mathlib.Omega.{arith}
 use lib.ListN.{length, take, drop}
 use lib.Seq.{length-take-le}
 use borrow.Author.Needs.{needs}
-use Rattle.book.specs.Hex.{octetsOf, readIn, countIn}
+use Rattle.book.specs.Hex.{octetsOf}
 use Rattle.book.specs.Line.{fields, askedOf, asked}
+use Rattle.book.specs.Handed.{readIn, countIn}
 use Rattle.book.proofs.Forms.{too-long, no-tab, seals, opens, neither, asked-is}
 use Rattle.book.proofs.line.request_of.Statement.{statement}
 use Rattle.book.proofs.line.request_of.Tie as tie

@@ -6,12 +6,14 @@ use native.Mathlib.Omega.{arith}
 use lib.ListN.{length, take}
 use lib.Seq.{length-take-le}
 use borrow.Author.Needs.{needs}
+use borrow.Author.Tests.{leb-true, leb-false}
 use Rattle.rules.specs.declared.Sender.{Sender}
 use Rattle.rules.specs.declared.Receiver.{Receiver}
+use Rattle.book.specs.Limits.{mostKept, mostFrame, mostResult, mostAnswer}
 use Rattle.book.specs.declared.Book.{Book}
 use Rattle.book.specs.declared.Stage.{Stage}
 use Rattle.book.specs.declared.Stage.the-variants.{First}
-use Rattle.book.specs.Line.{requestIn, frameIn}
+use Rattle.book.specs.Handed.{requestIn, frameIn}
 use Rattle.book.proofs.Answered.{Left, at-stage, nothing-left, bad-left, sealed-left, opened-left}
 use Rattle.book.proofs.Feeding.{Here, start, rest, more, short, all-taken}
 use Rattle.book.proofs.pieces.feed_lines.Statement.{statement}
@@ -22,41 +24,55 @@ book lines stage sender receiver = record { lines = lines; stage = stage; sender
 
 abbrev Inv-loop : tie.InvT-loop
 Inv-loop kept line₀ piece out₀ frame₀ result₀ lines₀ stage₀ sender₀ receiver₀ here₀ at₀ written₀ line out frame result lines stage sender receiver here at written =
-    (length frame ≡ 2400) × (length result ≡ 2416)
+    (length frame ≡ mostFrame) × (length result ≡ mostResult)
     × Here (book lines₀ stage₀ sender₀ receiver₀) (take kept line₀) piece out₀ line out (book lines stage sender receiver) here at written
 
 abbrev μ-loop : tie.MeasureT-loop
 μ-loop kept line₀ piece out₀ frame₀ result₀ lines₀ stage₀ sender₀ receiver₀ here₀ at₀ written₀ line out frame result lines stage sender receiver here at written =
     length piece - at
 
--- where a line has ended and is kept
-module _ (c : tie.Else2 Inv-loop μ-loop) where
+-- where the end of a line, or of the piece, is found and the line is kept
+module _ (c : tie.After-slice-known3 Inv-loop μ-loop) where
   abbrev B : Book
-  B = let l = c .before .before .before .before .before .before .before .before .loop in book (l .lines) (l .stage) (l .sender) (l .receiver)
+  B = let l = c .before .before .before .before .before .before .before .loop in book (l .lines) (l .stage) (l .sender) (l .receiver)
 
   abbrev T : List ℕ
-  T = take (c .before .before .before .keep .result) (c .before .before .before .keep .last .0)
+  T = take (c .before .before .keep .result) (c .before .before .keep .last .0)
 
-  within : c .before .before .before .keep .result ≤ length (c .before .before .before .keep .last .0)
-  within = let k = c .before .before .before .keep .ensures .0 in search needs
+  size : length (c .before .before .keep .last .0) ≡ mostKept
+  size = search needs
 
-  text-size : length T ≡ c .before .before .before .keep .result
+  within : c .before .before .keep .result ≤ length (c .before .before .keep .last .0)
+  within = omega (arith, size, c .before .before .keep .ensures .0)
+
+  text-size : length T ≡ c .before .before .keep .result
   text-size = length-take-le _ _ within
 
-  less : length (c .before .before .before .before .before .before .before .before .before .before .before .before .before .before .args .piece .now) - (c .before .before .before .before .before .find .result + 1) < length (c .before .before .before .before .before .before .before .before .before .before .before .before .before .before .args .piece .now) - c .before .before .before .before .before .before .before .before .loop .at
-  less = omega (arith, c .before .before .before .before .before .find .ensures .0, c .before .before .before .before .before .find .ensures .1, c .if2 .left, c .before .before .before .before .before .before .before .loop-test .taken)
+  room : c .before .before .before .before .before .before .before .loop .written + mostAnswer ≤ length (c .before .before .before .before .before .before .before .loop .out)
+  room = omega (arith, leb-true mostAnswer (length (c .before .before .before .before .before .before .before .loop .out) - c .before .before .before .before .before .before .before .loop .written) (c .before .before .before .before .before .if1 .taken), c .before .before .before .before .before .before .before .loop .inv .2 .out-size, c .before .before .before .before .before .before .before .loop .inv .2 .room)
 
-  next : (book₂ : Book) (out₂ : List ℕ) (w₂ : ℕ) → length out₂ ≡ length (c .before .before .before .before .before .before .before .before .loop .out) → Left B T (c .before .before .before .before .before .before .before .before .loop .written) (c .before .before .before .before .before .before .before .before .loop .out) book₂ w₂ out₂
-      → Here (c .before .before .before .before .before .before .before .before .before .before .before .before .before .before .args .b) (take (c .before .before .before .before .before .before .before .before .before .before .before .before .before .before .args .kept) (c .before .before .before .before .before .before .before .before .before .before .before .before .before .before .args .line .now)) (c .before .before .before .before .before .before .before .before .before .before .before .before .before .before .args .piece .now) (c .before .before .before .before .before .before .before .before .before .before .before .before .before .before .args .out .now) (c .before .before .before .keep .last .0) out₂ book₂ 0 (c .before .before .before .before .before .find .result + 1) w₂
-  next book₂ out₂ w₂ z h =
-      let a = c .before .before .before .before .before .before .before .before .before .before .before .before .before .before .args in
-      let l = c .before .before .before .before .before .before .before .before .loop in
-      let f = c .before .before .before .before .before .find in
-      let k = c .before .before .before .keep in
-      let n = c .if2 .left in
-      let m = f .ensures .1 in
-      more (a .b) (take (a .kept) (a .line .now)) (a .piece .now) (a .out .now) (l .line) (l .out) B (l .here) (l .at) (l .written) (l .inv .2) (f .result) (f .ensures .0) (k .last .0) (k .result) (search needs) (k .ensures .1) (omega arith)
-      book₂ out₂ w₂ z (h .0) (h .1 .0) (h .1 .1)
+  at-end : c .before .before .before .before .find .result ≡ length (c .before .before .before .before .before .before .before .before .before .before .before .before .before .args .piece .now) → Here (c .before .before .before .before .before .before .before .before .before .before .before .before .before .args .b) (take (c .before .before .before .before .before .before .before .before .before .before .before .before .before .args .kept) (c .before .before .before .before .before .before .before .before .before .before .before .before .before .args .line .now)) (c .before .before .before .before .before .before .before .before .before .before .before .before .before .args .piece .now) (c .before .before .before .before .before .before .before .before .before .before .before .before .before .args .out .now) (c .before .before .keep .last .0) (c .before .before .before .before .before .before .before .loop .out) B (c .before .before .keep .result) (c .before .before .before .before .find .result) (c .before .before .before .before .before .before .before .loop .written)
+  at-end e =
+      let a = c .before .before .before .before .before .before .before .before .before .before .before .before .before .args in
+      let l = c .before .before .before .before .before .before .before .loop in
+      let f = c .before .before .before .before .find in
+      let k = c .before .before .keep in
+      rest (a .b) (take (a .kept) (a .line .now)) (a .piece .now) (a .out .now) (l .line) (l .out) B (l .here) (l .at) (l .written) (l .inv .2) (f .result) (f .ensures .0) (k .last .0) (k .result) size (k .ensures .1) (k .ensures .0) e
+
+  module _ (ends : c .before .before .before .before .find .result ≡ length (c .before .before .before .before .before .before .before .before .before .before .before .before .before .args .piece .now) → ⊥) where
+    less : length (c .before .before .before .before .before .before .before .before .before .before .before .before .before .args .piece .now) - (c .before .before .before .before .find .result + 1) < length (c .before .before .before .before .before .before .before .before .before .before .before .before .before .args .piece .now) - c .before .before .before .before .before .before .before .loop .at
+    less = omega (arith, c .before .before .before .before .find .ensures .0, c .before .before .before .before .find .ensures .1, c .before .before .before .before .before .before .loop-test .taken)
+
+    next : (book₂ : Book) (out₂ : List ℕ) (w₂ : ℕ) → length out₂ ≡ length (c .before .before .before .before .before .before .before .loop .out) → Left B T (c .before .before .before .before .before .before .before .loop .written) (c .before .before .before .before .before .before .before .loop .out) book₂ w₂ out₂
+        → Here (c .before .before .before .before .before .before .before .before .before .before .before .before .before .args .b) (take (c .before .before .before .before .before .before .before .before .before .before .before .before .before .args .kept) (c .before .before .before .before .before .before .before .before .before .before .before .before .before .args .line .now)) (c .before .before .before .before .before .before .before .before .before .before .before .before .before .args .piece .now) (c .before .before .before .before .before .before .before .before .before .before .before .before .before .args .out .now) (c .before .before .keep .last .0) out₂ book₂ 0 (c .before .before .before .before .find .result + 1) w₂
+    next book₂ out₂ w₂ z h =
+        let a = c .before .before .before .before .before .before .before .before .before .before .before .before .before .args in
+        let l = c .before .before .before .before .before .before .before .loop in
+        let f = c .before .before .before .before .find in
+        let k = c .before .before .keep in
+        let m = f .ensures .1 in
+        more (a .b) (take (a .kept) (a .line .now)) (a .piece .now) (a .out .now) (l .line) (l .out) B (l .here) (l .at) (l .written) (l .inv .2) (f .result) (f .ensures .0) (k .last .0) (k .result) size (k .ensures .1) (omega arith)
+        book₂ out₂ w₂ z (h .0) (h .1 .0) (h .1 .1)
 
 framed : (c : tie.After-k Inv-loop μ-loop) → c .k .given .0 .0 ≤ length (c .before .before .before .request-of .last .1 .0)
 framed c = let n = ap frameIn (c .k .given .1) in let m = c .before .before .before .request-of .ensures .1 in search needs
@@ -75,124 +91,128 @@ loop-holds c =
     let a = c .before .before .before .before .before .args in
     (refl, refl, start (a .b) (take (a .kept) (a .line .now)) (a .piece .now) (a .out .now) (a .line .now) (a .kept) (search needs) (search needs) refl)
 
-returns : tie.Need-returns Inv-loop μ-loop
-returns c =
-    let i = c .before .before .loop .inv .2 in
-    (i .gave, short _ _ _ _ _ _ _ _ _ _ i (rw (i .out-size) at (c .if1 .taken)))
-
-returns-2 : tie.Need-returns-2 Inv-loop μ-loop
-returns-2 c =
-    let a = c .before .before .before .before .before .before .before .before .before .before .before .before .before .before .args in
-    let l = c .before .before .before .before .before .before .before .before .loop in
-    let i = l .inv .2 in
-    let f = c .before .before .before .before .before .find in
-    let k = c .before .before .before .keep in (
-      rest (a .b) (take (a .kept) (a .line .now)) (a .piece .now) (a .out .now) (l .line) (l .out) (book (l .lines) (l .stage) (l .sender) (l .receiver)) (l .here) (l .at) (l .written) i (f .result) (f .ensures .0) (k .last .0) (k .result) (search needs) (k .ensures .1) (c .if2 .taken),
-      all-taken (a .b) (take (a .kept) (a .line .now)) (a .piece .now) (a .out .now) (f .result) (l .written) (c .if2 .taken) (i .room),
-    )
-
-slice-reshare-prefix-first-line : tie.Need-slice-reshare-prefix-first-line Inv-loop μ-loop
-slice-reshare-prefix-first-line c = within (c .before .before)
-
-slice-aggregate-first-line : tie.Need-slice-aggregate-first-line Inv-loop μ-loop
-slice-aggregate-first-line c = sym (text-size (c .before .before .before))
-
 loop-less : tie.Need-loop-less Inv-loop μ-loop
-loop-less c = less (c .before .before .before .before .before .before .before .before .before .before)
+loop-less c = let e = c .if2 .taken in let t = c .before .before .before .before .before .before .before .loop-test .taken in search needs
 
 loop-again : tie.Need-loop-again Inv-loop μ-loop
-loop-again c =
-    let d = c .before .before .before .before .before .before .before .before .before .before in
-    let l = d .before .before .before .before .before .before .before .before .loop in
-    let t = c .before .before .before .before .before .first-line in
-    (search needs, search needs, next d _ _ _ (search needs) (at-stage (B d) _ First (T d) (l .written) _ (l .out) _ (c .before .before .before .before .before .before .before .before .enum-told .given .1) (t .ensures)))
+loop-again c = (search needs, search needs, at-end (c .before) (c .if2 .taken))
 
-slice-reshare-prefix-request-of : tie.Need-slice-reshare-prefix-request-of Inv-loop μ-loop
-slice-reshare-prefix-request-of c = within (c .before .before .before)
+add-at : tie.Need-add-at Inv-loop μ-loop
+add-at c = let f = c .before .before .before .before .before .find .ensures .1 in search needs
 
-slice-aggregate-request-of : tie.Need-slice-aggregate-request-of Inv-loop μ-loop
-slice-aggregate-request-of c = sym (text-size (c .before .before .before .before))
+slice-reshare-prefix-first-line : tie.Need-slice-reshare-prefix-first-line Inv-loop μ-loop
+slice-reshare-prefix-first-line c = within (c .before .before .before)
+
+slice-aggregate-first-line : tie.Need-slice-aggregate-first-line Inv-loop μ-loop
+slice-aggregate-first-line c = sym (text-size (c .before .before .before .before))
+
+first-line-requires : tie.Need-first-line-requires Inv-loop μ-loop
+first-line-requires c κs = let r = room (c .before .before .before .before .before) in search needs
 
 loop-less-2 : tie.Need-loop-less-2 Inv-loop μ-loop
-loop-less-2 c = less (c .before .before .before .before .before .before .before .before .before .before .before .before .before)
+loop-less-2 c = less (c .before .before .before .before .before .before .before .before .before .before .before) (c .before .before .before .before .before .before .before .before .before .before .if2 .left)
 
 loop-again-2 : tie.Need-loop-again-2 Inv-loop μ-loop
 loop-again-2 c =
-    let d = c .before .before .before .before .before .before .before .before .before .before .before .before .before in
-    let l = d .before .before .before .before .before .before .before .before .loop in
+    let d = c .before .before .before .before .before .before .before .before .before .before .before in
+    let l = d .before .before .before .before .before .before .before .loop in
+    let t = c .before .before .before .before .before .first-line in
+    (search needs, search needs, next d (c .before .before .before .before .before .before .before .before .before .before .if2 .left) _ _ _ (search needs) (at-stage (B d) _ First (T d) (l .written) _ (l .out) _ (c .before .before .before .before .before .before .before .before .enum-told .given .1) (t .ensures)))
+
+slice-reshare-prefix-request-of : tie.Need-slice-reshare-prefix-request-of Inv-loop μ-loop
+slice-reshare-prefix-request-of c = within (c .before .before .before .before)
+
+slice-aggregate-request-of : tie.Need-slice-aggregate-request-of Inv-loop μ-loop
+slice-aggregate-request-of c = sym (text-size (c .before .before .before .before .before))
+
+put-bad-requires : tie.Need-put-bad-requires Inv-loop μ-loop
+put-bad-requires c κs = let r = room (c .before .before .before .before .before .before .before .before .before .before .before) in search needs
+
+loop-less-3 : tie.Need-loop-less-3 Inv-loop μ-loop
+loop-less-3 c = less (c .before .before .before .before .before .before .before .before .before .before .before .before .before .before) (c .before .before .before .before .before .before .before .before .before .before .before .before .before .if2 .left)
+
+loop-again-3 : tie.Need-loop-again-3 Inv-loop μ-loop
+loop-again-3 c =
+    let d = c .before .before .before .before .before .before .before .before .before .before .before .before .before .before in
+    let l = d .before .before .before .before .before .before .before .loop in
     let r = c .before .before .before .before .before .before .before .request-of in
     let n = c .before .before .before .before .before .before .before .before .before .before .wrapping-add-u64 in
     let g = c .before .before .before .before .before .before .before .before .before .before .before .enum-told2 .given .1 in
     let p = c .before .before .put-bad .ensures in (
       search needs,
       search needs,
-      next d _ _ _ (search needs)
+      next d (c .before .before .before .before .before .before .before .before .before .before .before .before .before .if2 .left) _ _ _ (search needs)
           (bad-left (B d) (T d) g (l .written) (l .out) (n .result) (n .ensures) _ _ (ap (λ x. requestIn x (r .last .1 .0)) (sym (c .before .before .before .before .enum-told3 .given .1)) ∙ r .ensures .0) (p .0) (p .1)),
     )
 
 array-share-prefix-frame : tie.Need-array-share-prefix-frame Inv-loop μ-loop
 array-share-prefix-frame c = framed (c .before)
 
-slice-aggregate-seal-line : tie.Need-slice-aggregate-seal-line Inv-loop μ-loop
-slice-aggregate-seal-line c = sym (length-take-le _ _ (framed (c .before .before)))
+slice-aggregate-f : tie.Need-slice-aggregate-f Inv-loop μ-loop
+slice-aggregate-f c = sym (frame-size (c .before .before))
 
 seal-line-requires : tie.Need-seal-line-requires Inv-loop μ-loop
-seal-line-requires c κs = let z = frame-size (c .before .before .before .before) in let m = framed (c .before .before .before .before) in search needs
+seal-line-requires c κs = let z = frame-size (c .before .before .before .before) in let m = framed (c .before .before .before .before) in let r = room (c .before .before .before .before .before .before .before .before .before .before .before .before .before .before) in search needs
 
-loop-less-3 : tie.Need-loop-less-3 Inv-loop μ-loop
-loop-less-3 c = less (c .before .before .before .before .before .before .before .before .before .before .before .before .before .before .before .before .before .before)
+loop-less-4 : tie.Need-loop-less-4 Inv-loop μ-loop
+loop-less-4 c = less (c .before .before .before .before .before .before .before .before .before .before .before .before .before .before .before .before .before .before .before) (c .before .before .before .before .before .before .before .before .before .before .before .before .before .before .before .before .before .before .if2 .left)
 
-loop-again-3 : tie.Need-loop-again-3 Inv-loop μ-loop
-loop-again-3 c =
-    let d = c .before .before .before .before .before .before .before .before .before .before .before .before .before .before .before .before .before .before in
-    let l = d .before .before .before .before .before .before .before .before .loop in
+loop-again-4 : tie.Need-loop-again-4 Inv-loop μ-loop
+loop-again-4 c =
+    let d = c .before .before .before .before .before .before .before .before .before .before .before .before .before .before .before .before .before .before .before in
+    let l = d .before .before .before .before .before .before .before .loop in
     let r = c .before .before .before .before .before .before .before .before .before .before .before .before .request-of in
     let n = c .before .before .before .before .before .before .before .before .before .before .before .before .before .before .before .wrapping-add-u64 in
     let g = c .before .before .before .before .before .before .before .before .before .before .before .before .before .before .before .before .enum-told2 .given .1 in
     let p = c .before .before .before .before .seal-line .ensures in (
       search needs,
       search needs,
-      next d _ _ _ (search needs)
+      next d (c .before .before .before .before .before .before .before .before .before .before .before .before .before .before .before .before .before .before .if2 .left) _ _ _ (search needs)
           (sealed-left (B d) (T d) g (l .written) (l .out) (n .result) (n .ensures) _ _ _ (ap (λ x. requestIn x (r .last .1 .0)) (sym (c .before .before .before .before .before .before .before .before .before .k .given .1)) ∙ r .ensures .0) _ (p .0) (p .1 .0) (p .1 .1)),
     )
 
 array-share-prefix-frame-2 : tie.Need-array-share-prefix-frame-2 Inv-loop μ-loop
 array-share-prefix-frame-2 c = framed2 (c .before)
 
-slice-aggregate-open-line : tie.Need-slice-aggregate-open-line Inv-loop μ-loop
-slice-aggregate-open-line c = sym (length-take-le _ _ (framed2 (c .before .before)))
+slice-aggregate-f-2 : tie.Need-slice-aggregate-f-2 Inv-loop μ-loop
+slice-aggregate-f-2 c = sym (frame-size2 (c .before .before))
 
 open-line-requires : tie.Need-open-line-requires Inv-loop μ-loop
-open-line-requires c κs = let z = frame-size2 (c .before .before .before .before) in let m = framed2 (c .before .before .before .before) in search needs
+open-line-requires c κs = let z = frame-size2 (c .before .before .before .before) in let m = framed2 (c .before .before .before .before) in let r = room (c .before .before .before .before .before .before .before .before .before .before .before .before .before .before) in search needs
 
-loop-less-4 : tie.Need-loop-less-4 Inv-loop μ-loop
-loop-less-4 c = less (c .before .before .before .before .before .before .before .before .before .before .before .before .before .before .before .before .before .before)
+loop-less-5 : tie.Need-loop-less-5 Inv-loop μ-loop
+loop-less-5 c = less (c .before .before .before .before .before .before .before .before .before .before .before .before .before .before .before .before .before .before .before) (c .before .before .before .before .before .before .before .before .before .before .before .before .before .before .before .before .before .before .if2 .left)
 
-loop-again-4 : tie.Need-loop-again-4 Inv-loop μ-loop
-loop-again-4 c =
-    let d = c .before .before .before .before .before .before .before .before .before .before .before .before .before .before .before .before .before .before in
-    let l = d .before .before .before .before .before .before .before .before .loop in
+loop-again-5 : tie.Need-loop-again-5 Inv-loop μ-loop
+loop-again-5 c =
+    let d = c .before .before .before .before .before .before .before .before .before .before .before .before .before .before .before .before .before .before .before in
+    let l = d .before .before .before .before .before .before .before .loop in
     let r = c .before .before .before .before .before .before .before .before .before .before .before .before .request-of in
     let n = c .before .before .before .before .before .before .before .before .before .before .before .before .before .before .before .wrapping-add-u64 in
     let g = c .before .before .before .before .before .before .before .before .before .before .before .before .before .before .before .before .enum-told2 .given .1 in
     let p = c .before .before .before .before .open-line .ensures in (
       search needs,
       search needs,
-      next d _ _ _ (search needs)
+      next d (c .before .before .before .before .before .before .before .before .before .before .before .before .before .before .before .before .before .before .if2 .left) _ _ _ (search needs)
           (opened-left (B d) (T d) g (l .written) (l .out) (n .result) (n .ensures) _ _ _ (ap (λ x. requestIn x (r .last .1 .0)) (sym (c .before .before .before .before .before .before .before .before .before .k2 .given .1)) ∙ r .ensures .0) _ (p .0) (p .1 .0) (p .1 .1)),
     )
 
-loop-less-5 : tie.Need-loop-less-5 Inv-loop μ-loop
-loop-less-5 c = less (c .before .before)
+loop-less-6 : tie.Need-loop-less-6 Inv-loop μ-loop
+loop-less-6 c = less (c .before .before .before) (c .before .before .if2 .left)
 
-loop-again-5 : tie.Need-loop-again-5 Inv-loop μ-loop
-loop-again-5 c =
-    let d = c .before .before in
-    let l = d .before .before .before .before .before .before .before .before .loop in
-    (search needs, search needs, next d _ _ _ (search needs) (nothing-left (B d) (T d) (l .written) (l .out) (c .enum-told4 .given .1)))
+loop-again-6 : tie.Need-loop-again-6 Inv-loop μ-loop
+loop-again-6 c =
+    let d = c .before .before .before in
+    let l = d .before .before .before .before .before .before .before .loop in
+    (search needs, search needs, next d (c .before .before .if2 .left) _ _ _ (search needs) (nothing-left (B d) (T d) (l .written) (l .out) (c .enum-told4 .given .1)))
 
-returns-3 : tie.Need-returns-3 Inv-loop μ-loop
-returns-3 c =
+returns : tie.Need-returns Inv-loop μ-loop
+returns c =
+    let i = c .before .before .loop .inv .2 in
+    (i .gave, short _ _ _ _ _ _ _ _ _ _ i (leb-false mostAnswer _ (rw (i .out-size) at (c .if1 .left))))
+
+returns-2 : tie.Need-returns-2 Inv-loop μ-loop
+returns-2 c =
     let a = c .before .before .before .before .before .before .before .args in
     let l = c .before .loop in
     let i = l .inv .2 in
@@ -207,21 +227,17 @@ feed-lines-spec =
     μ-loop
     loop-holds
     (λ c. search needs)
-    (λ c. search needs)
-    (λ c. search needs)
-    returns
     (λ c κs. search needs)
-    (λ c κs. search needs)
-    (λ c. search needs)
-    (λ c. search needs)
-    returns-2
-    (λ c. search needs)
-    (λ c. search needs)
-    slice-reshare-prefix-first-line
-    slice-aggregate-first-line
     (λ c κs. search needs)
     loop-less
     loop-again
+    add-at
+    (λ c. search needs)
+    slice-reshare-prefix-first-line
+    slice-aggregate-first-line
+    first-line-requires
+    loop-less-2
+    loop-again-2
     (λ c. search needs)
     (λ c κs. search needs)
     slice-reshare-prefix-request-of
@@ -229,26 +245,29 @@ feed-lines-spec =
     (λ c. search needs)
     (λ c κs. search needs)
     (λ c. search needs)
-    (λ c κs. search needs)
-    loop-less-2
-    loop-again-2
-    (λ c. search needs)
-    array-share-prefix-frame
-    slice-aggregate-seal-line
-    (λ c. search needs)
-    seal-line-requires
+    put-bad-requires
     loop-less-3
     loop-again-3
     (λ c. search needs)
-    array-share-prefix-frame-2
-    slice-aggregate-open-line
+    array-share-prefix-frame
+    slice-aggregate-f
     (λ c. search needs)
-    open-line-requires
+    seal-line-requires
     loop-less-4
     loop-again-4
     (λ c. search needs)
+    array-share-prefix-frame-2
+    slice-aggregate-f-2
+    (λ c. search needs)
+    open-line-requires
     loop-less-5
     loop-again-5
     (λ c. search needs)
+    loop-less-6
+    loop-again-6
     (λ c. search needs)
-    returns-3)
+    (λ c. search needs)
+    returns
+    (λ c. search needs)
+    (λ c. search needs)
+    returns-2)

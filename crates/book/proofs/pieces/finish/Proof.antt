@@ -6,6 +6,7 @@ use native.Mathlib.Omega.{arith}
 use lib.ListN.{length, take}
 use lib.Seq.{length-take-le}
 use borrow.Author.Needs.{needs}
+use Rattle.book.specs.Limits.{mostKept, mostAnswer}
 use Rattle.book.specs.Put.{put}
 use Rattle.book.specs.Text.{unended}
 use Rattle.book.specs.Pieces.{says, held, ended}
@@ -20,7 +21,7 @@ is-held c = kept-held _ _ _ (search needs) (c .kept-of .ensures .1)
 
 held-size : (c : tie.After-kept-of) → length (held (c .before .args .r)) ≡ c .kept-of .result
 held-size c =
-    let line : length (c .before .args .r .line) ≡ 4801 = search needs in
+    let line : length (c .before .args .r .line) ≡ mostKept = search needs in
     ap length (sym (is-held c)) ∙ length-take-le _ _ (omega (arith, c .kept-of .ensures .0))
 
 returns : tie.Need-returns
@@ -35,7 +36,7 @@ returns-2 c =
     let a = d .before .args in
     let f = c .before .feed-lines in
     let e = f .ensures .1 in
-    let room : 4880 ≤ length (a .out .now) = search needs in
+    let room : mostAnswer ≤ length (a .out .now) = search needs in
     let one : f .result .taken ≡ 1 = omega (arith, e .within, e .some (omega arith) room) in
     let said : says (a .r .book) (ended (take (d .kept-of .result) (a .r .line)) (take (f .result .taken) (10 ∷ []))) ≡ says (a .r .book) (unended (held (a .r)))
     = ap₂ (λ (p : List ℕ) (n : ℕ). says (a .r .book) (ended p (take n (10 ∷ [])))) (is-held d) one

@@ -5,6 +5,7 @@ use Prim.Native.Nat.{_+_, _-_}
 use native.Mathlib.Omega.{arith}
 use lib.ListN.{drop, length-drop}
 use borrow.Author.Needs.{needs}
+use Rattle.book.specs.Limits.{mostKept}
 use Rattle.book.proofs.Held.{kept-cut}
 use Rattle.book.proofs.pieces.keep.Statement.{statement}
 use Rattle.book.proofs.pieces.keep.Tie as tie
@@ -17,7 +18,7 @@ returns c =
     let fact = c .before .before .before .before .before .if1 .taken in
     let size = length-drop (a .a) (a .piece .now) in
     let pre = c₀ .pre in
-    kept-cut (a .line .now) (drop (a .a) (a .piece .now)) (a .kept) (a .a + (4801 - a .kept) - a .a) (a .e - a .a) (pre .0) (omega arith) (omega arith) (omega arith) (inr (omega arith)) _ _ (t .ensures .0) (t .ensures .1)
+    kept-cut (a .line .now) (drop (a .a) (a .piece .now)) (a .kept) (a .a + (mostKept - a .kept) - a .a) (a .e - a .a) (pre .0) (omega arith) (omega arith) (omega arith) (inr (omega arith)) _ _ (t .ensures .0) (t .ensures .1)
 
 returns-2 : tie.Need-returns-2
 returns-2 c =
