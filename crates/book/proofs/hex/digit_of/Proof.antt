@@ -1,18 +1,22 @@
 -- The branches are the definition's tests.
 use borrow.Author.Needs.{needs}
 use borrow.Author.Tests.{le-leb, lt-leb}
-use mathlib.Core.Bool.{false, _&&_}
+use mathlib.Core.Bool.{Bool, true, false, _&&_}
 use mathlib.Core.Logic.{⊎-elim}
-use mathlib.Core.Path.{_≡_}
+use mathlib.Core.Path.{_≡_, refl}
 use lib.Dec.{leb}
 use Rattle.book.proofs.hex.digit_of.Statement.{statement}
 use Rattle.book.proofs.hex.digit_of.Tie as tie
 
+second-false : (a b : Bool) → b ≡ false → a && b ≡ false
+second-false true b e = e
+second-false false b e = refl
+
 not-0-9 : (c : tie.Joined1) → let x = c .before .args .x in leb 48 x && leb x 57 ≡ false
-not-0-9 c = ⊎-elim (λ w. rw (le-leb _ _ (w .0 .taken), w .1 .left)) (λ w. rw (lt-leb _ _ (w .left))) (c .if1 .came)
+not-0-9 c = ⊎-elim (λ w. second-false (leb 48 (c .before .args .x)) (leb (c .before .args .x) 57) (w .1 .left)) (λ w. rw (lt-leb _ _ (w .left))) (c .if1 .came)
 
 not-a-f : (c : tie.Joined3) → let x = c .before .before .args .x in leb 97 x && leb x 102 ≡ false
-not-a-f c = ⊎-elim (λ w. rw (le-leb _ _ (w .0 .taken), w .1 .left)) (λ w. rw (lt-leb _ _ (w .left))) (c .if3 .came)
+not-a-f c = ⊎-elim (λ w. second-false (leb 97 (c .before .before .args .x)) (leb (c .before .before .args .x) 102) (w .1 .left)) (λ w. rw (lt-leb _ _ (w .left))) (c .if3 .came)
 
 returns : tie.Need-returns
 returns c = rw (le-leb _ _ (c .before .if1 .taken), c .if2 .taken)

@@ -33,45 +33,71 @@ abbrev μ-loop : tie.MeasureT-loop
 
 -- where the end of a line, or of the piece, is found and the line is kept
 module _ (c : tie.After-slice-known3 Inv-loop μ-loop) where
+  abbrev B₀ : Book
+  B₀ = c .before .before .before .before .before .before .before .before .before .before .before .before .before .args .b
+
+  abbrev p₀ : List ℕ
+  p₀ = take (c .before .before .before .before .before .before .before .before .before .before .before .before .before .args .kept) (c .before .before .before .before .before .before .before .before .before .before .before .before .before .args .line .now)
+
+  abbrev piece : List ℕ
+  piece = c .before .before .before .before .before .before .before .before .before .before .before .before .before .args .piece .now
+
+  abbrev O₀ : List ℕ
+  O₀ = c .before .before .before .before .before .before .before .before .before .before .before .before .before .args .out .now
+
+  -- at the start of the turn
   abbrev B : Book
   B = let l = c .before .before .before .before .before .before .before .loop in book (l .lines) (l .stage) (l .sender) (l .receiver)
 
-  abbrev T : List ℕ
-  T = take (c .before .before .keep .result) (c .before .before .keep .last .0)
+  abbrev O : List ℕ
+  O = c .before .before .before .before .before .before .before .loop .out
 
-  size : length (c .before .before .keep .last .0) ≡ mostKept
+  abbrev at : ℕ
+  at = c .before .before .before .before .before .before .before .loop .at
+
+  abbrev w : ℕ
+  w = c .before .before .before .before .before .before .before .loop .written
+
+  here : Here B₀ p₀ piece O₀ (c .before .before .before .before .before .before .before .loop .line) O B (c .before .before .before .before .before .before .before .loop .here) at w
+  here = c .before .before .before .before .before .before .before .loop .inv .2
+
+  -- the line's end, and the line
+  abbrev end : ℕ
+  end = c .before .before .before .before .find .result
+
+  abbrev L : List ℕ
+  L = c .before .before .keep .last .0
+
+  abbrev n : ℕ
+  n = c .before .before .keep .result
+
+  abbrev T : List ℕ
+  T = take n L
+
+  size : length L ≡ mostKept
   size = search needs
 
-  within : c .before .before .keep .result ≤ length (c .before .before .keep .last .0)
+  within : n ≤ length L
   within = omega (arith, size, c .before .before .keep .ensures .0)
 
-  text-size : length T ≡ c .before .before .keep .result
-  text-size = length-take-le _ _ within
+  text-size : length T ≡ n
+  text-size = length-take-le n L within
 
-  room : c .before .before .before .before .before .before .before .loop .written + mostAnswer ≤ length (c .before .before .before .before .before .before .before .loop .out)
-  room = omega (arith, leb-true mostAnswer (length (c .before .before .before .before .before .before .before .loop .out) - c .before .before .before .before .before .before .before .loop .written) (c .before .before .before .before .before .if1 .taken), c .before .before .before .before .before .before .before .loop .inv .2 .out-size, c .before .before .before .before .before .before .before .loop .inv .2 .room)
+  room : w + mostAnswer ≤ length O
+  room = omega (arith, leb-true mostAnswer (length O - w) (c .before .before .before .before .before .if1 .taken), here .out-size, here .room)
 
-  at-end : c .before .before .before .before .find .result ≡ length (c .before .before .before .before .before .before .before .before .before .before .before .before .before .args .piece .now) → Here (c .before .before .before .before .before .before .before .before .before .before .before .before .before .args .b) (take (c .before .before .before .before .before .before .before .before .before .before .before .before .before .args .kept) (c .before .before .before .before .before .before .before .before .before .before .before .before .before .args .line .now)) (c .before .before .before .before .before .before .before .before .before .before .before .before .before .args .piece .now) (c .before .before .before .before .before .before .before .before .before .before .before .before .before .args .out .now) (c .before .before .keep .last .0) (c .before .before .before .before .before .before .before .loop .out) B (c .before .before .keep .result) (c .before .before .before .before .find .result) (c .before .before .before .before .before .before .before .loop .written)
+  at-end : end ≡ length piece → Here B₀ p₀ piece O₀ L O B n end w
   at-end e =
-      let a = c .before .before .before .before .before .before .before .before .before .before .before .before .before .args in
-      let l = c .before .before .before .before .before .before .before .loop in
-      let f = c .before .before .before .before .find in
-      let k = c .before .before .keep in
-      rest (a .b) (take (a .kept) (a .line .now)) (a .piece .now) (a .out .now) (l .line) (l .out) B (l .here) (l .at) (l .written) (l .inv .2) (f .result) (f .ensures .0) (k .last .0) (k .result) size (k .ensures .1) (k .ensures .0) e
+      let k = c .before .before .keep .ensures in
+      rest B₀ p₀ piece O₀ _ O B _ at w here end (c .before .before .before .before .find .ensures .0) L n size (k .1) (k .0) e
 
-  module _ (ends : c .before .before .before .before .find .result ≡ length (c .before .before .before .before .before .before .before .before .before .before .before .before .before .args .piece .now) → ⊥) where
-    less : length (c .before .before .before .before .before .before .before .before .before .before .before .before .before .args .piece .now) - (c .before .before .before .before .find .result + 1) < length (c .before .before .before .before .before .before .before .before .before .before .before .before .before .args .piece .now) - c .before .before .before .before .before .before .before .loop .at
+  module _ (ends : end ≡ length piece → ⊥) where
+    less : length piece - (end + 1) < length piece - at
     less = omega (arith, c .before .before .before .before .find .ensures .0, c .before .before .before .before .find .ensures .1, c .before .before .before .before .before .before .loop-test .taken)
 
-    next : (book₂ : Book) (out₂ : List ℕ) (w₂ : ℕ) → length out₂ ≡ length (c .before .before .before .before .before .before .before .loop .out) → Left B T (c .before .before .before .before .before .before .before .loop .written) (c .before .before .before .before .before .before .before .loop .out) book₂ w₂ out₂
-        → Here (c .before .before .before .before .before .before .before .before .before .before .before .before .before .args .b) (take (c .before .before .before .before .before .before .before .before .before .before .before .before .before .args .kept) (c .before .before .before .before .before .before .before .before .before .before .before .before .before .args .line .now)) (c .before .before .before .before .before .before .before .before .before .before .before .before .before .args .piece .now) (c .before .before .before .before .before .before .before .before .before .before .before .before .before .args .out .now) (c .before .before .keep .last .0) out₂ book₂ 0 (c .before .before .before .before .find .result + 1) w₂
+    next : (book₂ : Book) (out₂ : List ℕ) (w₂ : ℕ) → length out₂ ≡ length O → Left B T w O book₂ w₂ out₂ → Here B₀ p₀ piece O₀ L out₂ book₂ 0 (end + 1) w₂
     next book₂ out₂ w₂ z h =
-        let a = c .before .before .before .before .before .before .before .before .before .before .before .before .before .args in
-        let l = c .before .before .before .before .before .before .before .loop in
-        let f = c .before .before .before .before .find in
-        let k = c .before .before .keep in
-        let m = f .ensures .1 in
-        more (a .b) (take (a .kept) (a .line .now)) (a .piece .now) (a .out .now) (l .line) (l .out) B (l .here) (l .at) (l .written) (l .inv .2) (f .result) (f .ensures .0) (k .last .0) (k .result) size (k .ensures .1) (omega arith)
+        more B₀ p₀ piece O₀ _ O B _ at w here end (c .before .before .before .before .find .ensures .0) L n size (c .before .before .keep .ensures .1) (omega (arith, c .before .before .before .before .find .ensures .1))
         book₂ out₂ w₂ z (h .0) (h .1 .0) (h .1 .1)
 
 framed : (c : tie.After-k Inv-loop μ-loop) → c .k .given .0 .0 ≤ length (c .before .before .before .request-of .last .1 .0)
@@ -115,9 +141,8 @@ loop-less-2 c = less (c .before .before .before .before .before .before .before 
 loop-again-2 : tie.Need-loop-again-2 Inv-loop μ-loop
 loop-again-2 c =
     let d = c .before .before .before .before .before .before .before .before .before .before .before in
-    let l = d .before .before .before .before .before .before .before .loop in
     let t = c .before .before .before .before .before .first-line in
-    (search needs, search needs, next d (c .before .before .before .before .before .before .before .before .before .before .if2 .left) _ _ _ (search needs) (at-stage (B d) _ First (T d) (l .written) _ (l .out) _ (c .before .before .before .before .before .before .before .before .enum-told .given .1) (t .ensures)))
+    (search needs, search needs, next d (c .before .before .before .before .before .before .before .before .before .before .if2 .left) _ _ _ (search needs) (at-stage (B d) _ First (T d) (w d) _ (O d) _ (c .before .before .before .before .before .before .before .before .enum-told .given .1) (t .ensures)))
 
 slice-reshare-prefix-request-of : tie.Need-slice-reshare-prefix-request-of Inv-loop μ-loop
 slice-reshare-prefix-request-of c = within (c .before .before .before .before)
@@ -134,7 +159,6 @@ loop-less-3 c = less (c .before .before .before .before .before .before .before 
 loop-again-3 : tie.Need-loop-again-3 Inv-loop μ-loop
 loop-again-3 c =
     let d = c .before .before .before .before .before .before .before .before .before .before .before .before .before .before in
-    let l = d .before .before .before .before .before .before .before .loop in
     let r = c .before .before .before .before .before .before .before .request-of in
     let n = c .before .before .before .before .before .before .before .before .before .before .wrapping-add-u64 in
     let g = c .before .before .before .before .before .before .before .before .before .before .before .enum-told2 .given .1 in
@@ -142,7 +166,7 @@ loop-again-3 c =
       search needs,
       search needs,
       next d (c .before .before .before .before .before .before .before .before .before .before .before .before .before .if2 .left) _ _ _ (search needs)
-          (bad-left (B d) (T d) g (l .written) (l .out) (n .result) (n .ensures) _ _ (ap (λ x. requestIn x (r .last .1 .0)) (sym (c .before .before .before .before .enum-told3 .given .1)) ∙ r .ensures .0) (p .0) (p .1)),
+          (bad-left (B d) (T d) g (w d) (O d) (n .result) (n .ensures) _ _ (ap (λ x. requestIn x (r .last .1 .0)) (sym (c .before .before .before .before .enum-told3 .given .1)) ∙ r .ensures .0) (p .0) (p .1)),
     )
 
 array-share-prefix-frame : tie.Need-array-share-prefix-frame Inv-loop μ-loop
@@ -160,7 +184,6 @@ loop-less-4 c = less (c .before .before .before .before .before .before .before 
 loop-again-4 : tie.Need-loop-again-4 Inv-loop μ-loop
 loop-again-4 c =
     let d = c .before .before .before .before .before .before .before .before .before .before .before .before .before .before .before .before .before .before .before in
-    let l = d .before .before .before .before .before .before .before .loop in
     let r = c .before .before .before .before .before .before .before .before .before .before .before .before .request-of in
     let n = c .before .before .before .before .before .before .before .before .before .before .before .before .before .before .before .wrapping-add-u64 in
     let g = c .before .before .before .before .before .before .before .before .before .before .before .before .before .before .before .before .enum-told2 .given .1 in
@@ -168,7 +191,7 @@ loop-again-4 c =
       search needs,
       search needs,
       next d (c .before .before .before .before .before .before .before .before .before .before .before .before .before .before .before .before .before .before .if2 .left) _ _ _ (search needs)
-          (sealed-left (B d) (T d) g (l .written) (l .out) (n .result) (n .ensures) _ _ _ (ap (λ x. requestIn x (r .last .1 .0)) (sym (c .before .before .before .before .before .before .before .before .before .k .given .1)) ∙ r .ensures .0) _ (p .0) (p .1 .0) (p .1 .1)),
+          (sealed-left (B d) (T d) g (w d) (O d) (n .result) (n .ensures) _ _ _ (ap (λ x. requestIn x (r .last .1 .0)) (sym (c .before .before .before .before .before .before .before .before .before .k .given .1)) ∙ r .ensures .0) _ (p .0) (p .1 .0) (p .1 .1)),
     )
 
 array-share-prefix-frame-2 : tie.Need-array-share-prefix-frame-2 Inv-loop μ-loop
@@ -186,7 +209,6 @@ loop-less-5 c = less (c .before .before .before .before .before .before .before 
 loop-again-5 : tie.Need-loop-again-5 Inv-loop μ-loop
 loop-again-5 c =
     let d = c .before .before .before .before .before .before .before .before .before .before .before .before .before .before .before .before .before .before .before in
-    let l = d .before .before .before .before .before .before .before .loop in
     let r = c .before .before .before .before .before .before .before .before .before .before .before .before .request-of in
     let n = c .before .before .before .before .before .before .before .before .before .before .before .before .before .before .before .wrapping-add-u64 in
     let g = c .before .before .before .before .before .before .before .before .before .before .before .before .before .before .before .before .enum-told2 .given .1 in
@@ -194,7 +216,7 @@ loop-again-5 c =
       search needs,
       search needs,
       next d (c .before .before .before .before .before .before .before .before .before .before .before .before .before .before .before .before .before .before .if2 .left) _ _ _ (search needs)
-          (opened-left (B d) (T d) g (l .written) (l .out) (n .result) (n .ensures) _ _ _ (ap (λ x. requestIn x (r .last .1 .0)) (sym (c .before .before .before .before .before .before .before .before .before .k2 .given .1)) ∙ r .ensures .0) _ (p .0) (p .1 .0) (p .1 .1)),
+          (opened-left (B d) (T d) g (w d) (O d) (n .result) (n .ensures) _ _ _ (ap (λ x. requestIn x (r .last .1 .0)) (sym (c .before .before .before .before .before .before .before .before .before .k2 .given .1)) ∙ r .ensures .0) _ (p .0) (p .1 .0) (p .1 .1)),
     )
 
 loop-less-6 : tie.Need-loop-less-6 Inv-loop μ-loop
@@ -203,8 +225,7 @@ loop-less-6 c = less (c .before .before .before) (c .before .before .if2 .left)
 loop-again-6 : tie.Need-loop-again-6 Inv-loop μ-loop
 loop-again-6 c =
     let d = c .before .before .before in
-    let l = d .before .before .before .before .before .before .before .loop in
-    (search needs, search needs, next d (c .before .before .if2 .left) _ _ _ (search needs) (nothing-left (B d) (T d) (l .written) (l .out) (c .enum-told4 .given .1)))
+    (search needs, search needs, next d (c .before .before .if2 .left) _ _ _ (search needs) (nothing-left (B d) (T d) (w d) (O d) (c .enum-told4 .given .1)))
 
 returns : tie.Need-returns Inv-loop μ-loop
 returns c =
