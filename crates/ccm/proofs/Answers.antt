@@ -11,6 +11,7 @@ use borrow.Author.Tests.{le-leb, lt-leb}
 use Rattle.ccm.specs.Blocks.{BlockCipher}
 use Rattle.ccm.specs.Ccm.{masked, U, inLimits, when, same, sealed, opened}
 use Rattle.ccm.specs.Room.{fitting, outcome, written}
+use Rattle.ccm.specs.declared.Outcome.{Outcome}
 use Rattle.ccm.specs.declared.Outcome.the-variants.{Done, Refused}
 use Rattle.ccm.proofs.Splitting.{length-masked}
 use Rattle.ccm.proofs.Laws.{length-both}
@@ -21,6 +22,9 @@ module _ (o : Option (List ℕ)) (room : List ℕ) where
 
   pub done : (t after : List ℕ) (n : ℕ) → o ≡ some t → n ≡ length t → after ≡ t ++ drop n room → (Done n ≡ outcome o) × (after ≡ written room o)
   done t after n e l is = (ap Done l ∙ ap outcome (sym e), is ∙ ap (λ (k : ℕ). t ++ drop k room) l ∙ ap (written room) (sym e))
+
+less-none : (n : ℕ) → n - 0 ≡ n
+less-none n = omega arith
 
 -- a text that the room does not hold
 small : (b : Bool) (t room : List ℕ) → length room < length t → fitting room (when b (some t)) ≡ none
@@ -70,28 +74,37 @@ module _ (E : List ℕ → List ℕ) (hE : BlockCipher E) (M : ℕ) (hM : M ≤ 
             let m = masked E N 1 (take (length t - M) t) in
             rw (le-leb M (length t) long, limits) (small (same (U E M N a m) (drop (length t - M) t)) m room (omega (arith, length-opened)))
 
-        pub open-wrong : same (U E M N a (masked E N 1 (take (length t - M) t))) (drop (length t - M) t) ≡ false → fitting room (opened E M N a t) ≡ none
-        unfolding opened
-        open-wrong w = rw (le-leb M (length t) long, limits, w)
+        -- the codes compared and the message ys written as the code does it
+        module _ (r : Bool) (is : r ≡ same (U E M N a (masked E N 1 (take (length t - M - 0) t))) (take (length t - (length t - M)) (drop (length t - M) t))) where
+          compared : r ≡ same (U E M N a (masked E N 1 (take (length t - M) t))) (drop (length t - M) t)
+          compared =
+              is ∙ ap₂ (λ (k : ℕ) (l : List ℕ). same (U E M N a (masked E N 1 (take k t))) l) (less-none (length t - M))
+              (take-all (length t - (length t - M)) (drop (length t - M) t) (omega (arith, length-drop (length t - M) t)))
 
-        pub open-done : length t - M ≤ length room → same (U E M N a (masked E N 1 (take (length t - M) t))) (drop (length t - M) t) ≡ true
-            → fitting room (opened E M N a t) ≡ some (masked E N 1 (take (length t - M) t))
-        unfolding opened
-        open-done k w =
-            let m = masked E N 1 (take (length t - M) t) in
-            rw (le-leb M (length t) long, limits, w, le-leb (length m) (length room) (omega (arith, length-opened)))
+          wrong : r ≡ false → fitting room (opened E M N a t) ≡ none
+          unfolding opened
+          wrong w = rw (le-leb M (length t) long, limits, sym compared ∙ w)
 
--- what `open` computes, with the cipher F that it holds, is what the definition says with E
-module _ (F E : List ℕ → List ℕ) (e : F ≡ E) (M : ℕ) (N a t : List ℕ) (n : ℕ) where
-  e₀ : n - 0 ≡ n
-  e₀ = omega arith
+          pub open-wrong : r ≡ false → (Refused ≡ outcome (fitting room (opened E M N a t))) × (room ≡ written room (fitting room (opened E M N a t)))
+          open-wrong w = refused (fitting room (opened E M N a t)) room (wrong w)
 
-  pub verified-is : (r : Bool) → r ≡ same (U F M N a (masked F N 1 (take (n - 0) t))) (take (length t - n) (drop n t))
-      → r ≡ same (U E M N a (masked E N 1 (take n t))) (drop n t)
-  verified-is r h =
-      h ∙ ap (λ (G : List ℕ → List ℕ). same (U G M N a (masked G N 1 (take (n - 0) t))) (take (length t - n) (drop n t))) e
-      ∙ ap₂ (λ (k : ℕ) (l : List ℕ). same (U E M N a (masked E N 1 (take k t))) l) e₀ (take-all (length t - n) (drop n t) (omega (arith, length-drop n t)))
+          right : length t - M ≤ length room → r ≡ true → fitting room (opened E M N a t) ≡ some (masked E N 1 (take (length t - M) t))
+          unfolding opened
+          right k w =
+              let m = masked E N 1 (take (length t - M) t) in
+              rw (le-leb M (length t) long, limits, sym compared ∙ w, le-leb (length m) (length room) (omega (arith, length-opened)))
 
-  pub opened-is : (ys room : List ℕ) → ys ≡ masked F N 1 (take (n - 0) t) → ys ++ drop (n - 0) room ≡ masked E N 1 (take n t) ++ drop n room
-  opened-is ys room h =
-      ap₂ (λ (l : List ℕ) (k : ℕ). l ++ drop k room) (h ∙ ap (λ (G : List ℕ → List ℕ). masked G N 1 (take (n - 0) t)) e ∙ ap (λ (k : ℕ). masked E N 1 (take k t)) e₀) e₀
+          pub open-right : length t - M ≤ length room → r ≡ true → (ys : List ℕ) → ys ≡ masked E N 1 (take (length t - M - 0) t)
+              → (Done (length t - M) ≡ outcome (fitting room (opened E M N a t))) × (ys ++ drop (length t - M - 0) room ≡ written room (fitting room (opened E M N a t)))
+          open-right k w ys e =
+              let e₀ = less-none (length t - M) in
+              done (fitting room (opened E M N a t)) room (masked E N 1 (take (length t - M) t)) (ys ++ drop (length t - M - 0) room) (length t - M) (right k w) (sym length-opened)
+              (ap₂ (λ (l : List ℕ) (j : ℕ). l ++ drop j room) (e ∙ ap (λ (j : ℕ). masked E N 1 (take j t)) e₀) e₀)
+
+-- what holds with the cipher F that the code has holds with E
+pub by-cipher : (F E : List ℕ → List ℕ) → F ≡ E → (M : ℕ) (N a room t : List ℕ) (r : Outcome) (after : List ℕ)
+    → (r ≡ outcome (fitting room (opened F M N a t))) × (after ≡ written room (fitting room (opened F M N a t)))
+    → (r ≡ outcome (fitting room (opened E M N a t))) × (after ≡ written room (fitting room (opened E M N a t)))
+by-cipher F E e M N a room t r after h =
+    let o = ap (λ (G : List ℕ → List ℕ). fitting room (opened G M N a t)) e in
+    (h .0 ∙ ap outcome o, h .1 ∙ ap (written room) o)

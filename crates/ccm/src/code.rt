@@ -30,7 +30,7 @@ fn code_of_masked(w: &[u8; 176], nonce: [u8; 13], aad: &[u8], text: &[u8]) -> [u
 }
 
 // Whether two strings of 8 octets are the same: each octet is compared, whatever the others are.
-fn equal(a: &[u8], b: &[u8]) -> bool
+pub(crate) fn equal(a: &[u8], b: &[u8]) -> bool
     requires { ⌜ (length (now a) ≡ 8) × (length (now b) ≡ 8) ⌝ }
     ensures { λ r. ⌜ r ≡ same (now (a .entry)) (now (b .entry)) ⌝ }
 {

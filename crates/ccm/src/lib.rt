@@ -6,11 +6,12 @@ mod code; // code.rt: the code of a message, in clear or encrypted
 
 use blocks::copy;
 use code::code_of;
+use code::equal;
 use code::verified;
 use stream::mask;
 ghost use mathlib.Core.Path.{_≡_};
 ghost use mathlib.Core.List.{_++_};
-ghost use Prim.Native.Nat.{_+_, _≤_};
+ghost use Prim.Native.Nat.{_+_, _-_, _≤_};
 ghost use lib.ListN.{length, drop};
 ghost use Rattle.aes.specs.Cipher.{cipher};
 ghost use Rattle.aes.specs.KeyExpansion.{aes128};
@@ -19,6 +20,8 @@ ghost use Rattle.ccm.specs.Room.{fitting, outcome, written};
 
 // M, the octets of a code.
 const CODE: usize = 8;
+// The longest message that opening holds in an array: the stack has to stay small on small boards.
+const SHORT: usize = 1536;
 
 pub enum Outcome {
     // The octets written.
@@ -70,6 +73,43 @@ pub fn seal(key: [u8; 16], nonce: [u8; 13], aad: &[u8], body: &[u8], out: &mut [
     Outcome::Done(n + CODE)
 }
 
+// Opens a short message in one pass over the key stream: it is decrypted into an array, and copied once its code is found right.
+fn open_short(w: &[u8; 176], nonce: [u8; 13], aad: &[u8], text: &[u8], out: &mut [u8]) -> Outcome
+    requires { ⌜
+        (1 ≤ length (now aad)) × (length (now aad) ≤ 64) × (8 ≤ length (now text)) × (length (now text) - 8 ≤ 1536) × (length (now text) - 8 ≤ length (now out)) ⌝ }
+    ensures { λ r. ⌜
+        r ≡ outcome (fitting (now (out .entry)) (opened (cipher 10 (now (w .entry))) 8 nonce (now (aad .entry)) (now (text .entry)))) ⌝ }
+    ensures { λ _. ⌜
+        now (out .exit) ≡ written (now (out .entry)) (fitting (now (out .entry)) (opened (cipher 10 (now (w .entry))) 8 nonce (now (aad .entry)) (now (text .entry)))) ⌝ }
+{
+    let n = text.len() - CODE;
+    let mut message = [0u8; SHORT];
+    mask(w, nonce, &text[0..n], &mut message[0..n]);
+    let code = code_of(w, nonce, aad, &message[0..n]);
+    if !equal(&code[0..CODE], &text[n..]) {
+        return Outcome::Refused;
+    }
+    copy(&message[0..n], &mut out[0..n]);
+    Outcome::Done(n)
+}
+
+// Opens a message of any length in two passes over the key stream, with no copy of it: one for the code, and one that writes.
+fn open_long(w: &[u8; 176], nonce: [u8; 13], aad: &[u8], text: &[u8], out: &mut [u8]) -> Outcome
+    requires { ⌜
+        (1 ≤ length (now aad)) × (length (now aad) ≤ 64) × (8 ≤ length (now text)) × (length (now text) - 8 ≤ 65535) × (length (now text) - 8 ≤ length (now out)) ⌝ }
+    ensures { λ r. ⌜
+        r ≡ outcome (fitting (now (out .entry)) (opened (cipher 10 (now (w .entry))) 8 nonce (now (aad .entry)) (now (text .entry)))) ⌝ }
+    ensures { λ _. ⌜
+        now (out .exit) ≡ written (now (out .entry)) (fitting (now (out .entry)) (opened (cipher 10 (now (w .entry))) 8 nonce (now (aad .entry)) (now (text .entry)))) ⌝ }
+{
+    let n = text.len() - CODE;
+    if !verified(w, nonce, aad, &text[0..n], &text[n..]) {
+        return Outcome::Refused;
+    }
+    mask(w, nonce, &text[0..n], &mut out[0..n]);
+    Outcome::Done(n)
+}
+
 // Opens text with nonce and aad into the front of out; the rest of out is kept. A refusal writes nothing, and nothing is
 // written before the code is found right.
 pub fn open(key: [u8; 16], nonce: [u8; 13], aad: &[u8], text: &[u8], out: &mut [u8]) -> Outcome
@@ -89,9 +129,8 @@ pub fn open(key: [u8; 16], nonce: [u8; 13], aad: &[u8], text: &[u8], out: &mut [
         return Outcome::Refused;
     }
     let w = aes::expand(key);
-    if !verified(&w, nonce, aad, &text[0..n], &text[n..]) {
-        return Outcome::Refused;
+    if n <= SHORT {
+        return open_short(&w, nonce, aad, text, out);
     }
-    mask(&w, nonce, &text[0..n], &mut out[0..n]);
-    Outcome::Done(n)
+    open_long(&w, nonce, aad, text, out)
 }
