@@ -7,7 +7,7 @@ use native.Mathlib.Omega.{arith}
 use lib.ListN.{length, take, drop, length-take, length-drop}
 use lib.Seq.{length-take-le, take-all, take-add}
 use borrow.Author.Needs.{needs}
-use Rattle.book.specs.Limits.{mostAnswer}
+use Rattle.book.specs.Limits.{mostKept, mostAnswer}
 use Rattle.book.specs.Pieces.{after, cut, held, ended, left}
 use Rattle.book.proofs.Whole.{before-any, another}
 use Rattle.framebook.proofs.feed_all.Statement.{statement}
@@ -33,7 +33,7 @@ never e = absurd (let z : _≡_ {A = ℕ} 0 1 = cc in omega arith)
 loop-holds : tie.Need-loop-holds Inv-loop μ-loop
 loop-holds c =
     let a = c .before .before .args in
-    let line : length (a .r .line) ≡ 4801 = search needs in
+    let line : length (a .r .line) ≡ mostKept = search needs in
     let before = before-any (a .r .book) (held (a .r)) (omega (arith, length-take (a .r .length) (a .r .line))) in
     (search needs, search needs, before .0, before .1)
 
