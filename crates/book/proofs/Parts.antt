@@ -48,15 +48,6 @@ module _ (x : ℕ) where
       step true ih h = absurd (omega arith)
       step false ih h = rw (ih (omega arith))
 
-  pub index-most : (s : List ℕ) → indexOf x s ≤ length s
-  unfolding indexOf indexAfter
-  index-most [] = omega arith
-  index-most (y ∷ s) = step (eqb y x) (index-most s)
-    where
-      step : (b : Bool) → indexOf x s ≤ length s → indexAfter b (indexOf x s) ≤ suc (length s)
-      step true h = omega arith
-      step false h = omega arith
-
   pub split-found : (s : List ℕ) → indexOf x s < length s → s ≡ take (indexOf x s) s ++ (x ∷ drop (suc (indexOf x s)) s)
   unfolding indexOf indexAfter
   split-found [] h = absurd (omega arith)

@@ -41,9 +41,6 @@ module _ (o : List ℕ) (at : ℕ) (a : List ℕ) (l : at + length a ≤ length 
   shape : put at a o ≡ front ++ drop (at + length a) o
   shape = sym (append-assoc (take at o) a (drop (at + length a) o))
 
-  pub length-put : length (put at a o) ≡ length o
-  length-put = omega (arith, ap length shape, length-append front (drop (at + length a) o), front-size, length-drop (at + length a) o)
-
   pub take-put : take (at + length a) (put at a o) ≡ take at o ++ a
   take-put = ap (take (at + length a)) shape ∙ take-at front (drop (at + length a) o) (at + length a) front-size
 

@@ -35,6 +35,7 @@ requestIn Malformed room = malformed
 requestIn (Seal n) room = sealing (take n room)
 requestIn (Open n) room = opening (take n room)
 
+-- the octets of that frame
 abbrev pub frameIn : Request → ℕ
 frameIn Malformed = 0
 frameIn (Seal n) = n

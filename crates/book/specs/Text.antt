@@ -15,7 +15,7 @@ abbrev pub prefix : List ℕ → List (List ℕ) → List (List ℕ)
 prefix p [] = p ∷ []
 prefix p (q ∷ qs) = (p ++ q) ∷ qs
 
--- what stands between the octets x of a text: one part more than there are
+-- the parts of a text between its octets x, one more than there are of these
 unfoldable pub parts : ℕ → List ℕ → List (List ℕ)
 parts x [] = [] ∷ []
 parts x (y ∷ text) = cond (eqb y x) ([] ∷ parts x text) (prefix (y ∷ []) (parts x text))
