@@ -1,8 +1,6 @@
 // What the timings and the comparisons with outside programs call: the library's functions, exported to C.
 use ccm::Outcome;
 use rules::Answer;
-use rules::Receiver;
-use rules::Sender;
 ghost use mathlib.Core.Path.{_≡_};
 ghost use Rattle.aes.specs.Cipher.{cipher};
 ghost use Rattle.aes.specs.KeyExpansion.{keyExpansion, aes128};
@@ -84,16 +82,9 @@ pub extern "C" fn bench_ccmp_seal(
     ensures { λ _. ⌜
         now (out .exit) ≡ sealOutput (sender (now (key .entry)) «key_id» (now (address .entry)) last) (now (frame .entry)) (now (out .entry)) ⌝ }
 {
-    let sealed = ccmp::seal(
-        Sender {
-            key: *key,
-            key_id,
-            address: *address,
-            last,
-        },
-        frame,
-        out,
-    );
+    let mut s = ccmp::new_sender(*key, key_id, *address);
+    s.last = last;
+    let sealed = ccmp::seal(s, frame, out);
     let answer = sealed.answer;
     numbered_answer(answer)
 }
@@ -113,20 +104,10 @@ pub extern "C" fn bench_ccmp_open(
     ensures { λ _. ⌜
         now (out .exit) ≡ openOutput (receiver (now (key .entry)) «key_id» (now (peer .entry)) (now (replay .entry))) (now (frame .entry)) (now (out .entry)) ⌝ }
 {
-    let opened = ccmp::open(
-        Receiver {
-            key: *key,
-            key_id,
-            peer: *peer,
-            replay: *replay,
-            format_errors: 0,
-            replays: 0,
-            decrypt_errors: 0,
-            opened: 0,
-        },
-        frame,
-        out,
-    );
+    let mut r = ccmp::new_receiver(*key, key_id, *peer);
+    let counters = *replay;
+    r.replay = counters;
+    let opened = ccmp::open(r, frame, out);
     let answer = opened.answer;
     numbered_answer(answer)
 }

@@ -4,7 +4,7 @@ use mathlib.Core.List.{List, [], _∷_}
 use Prim.Native.Nat.{ℕ, _+_, _%_, _^_}
 use lib.ListN.{length, take, getD, replicate}
 use Rattle.rules.specs.Limits.{added}
-use Rattle.rules.specs.Records.{newSender, newReceiver, freshSender, freshReceiver, senderNext, receiverNext}
+use Rattle.rules.specs.Records.{zeroSender, zeroReceiver, freshSender, freshReceiver, senderNext, receiverNext}
 use Rattle.rules.specs.Answers.{answerNumber}
 use Rattle.rules.specs.Sealing.{contents, sealAnswer, sealOutput}
 use Rattle.rules.specs.Opening.{openAnswer, openOutput}
@@ -22,8 +22,7 @@ use Rattle.book.specs.Line.{fields, field, sealWord, openWord, isKeyLine
 
 -- before line 1
 abbrev pub newBook : Book
-newBook =
-    record { lines = 0; stage = First; sender = newSender (replicate 16 0) 0 (replicate 6 0); receiver = newReceiver (replicate 16 0) 0 (replicate 6 0) }
+newBook = record { lines = 0; stage = First; sender = zeroSender; receiver = zeroReceiver }
 
 -- the number of the next line, in 64 bits
 abbrev pub lineNumber : Book → ℕ

@@ -13,8 +13,6 @@ use crate::line::MOST_LINE;
 use crate::line::Request;
 use crate::line::request_of;
 use crate::put::put_text;
-use rules::Receiver;
-use rules::Sender;
 ghost use mathlib.Core.Path.{_≡_};
 ghost use mathlib.Core.List.{[], _++_};
 ghost use Prim.Native.Nat.{_-_, _≤_};
@@ -42,26 +40,14 @@ pub fn new_reader() -> Reader
     ensures { λ r. ⌜ r .book ≡ newBook ⌝ }
     ensures { λ r. ⌜ held r ≡ [] ⌝ }
 {
+    let sender = ccmp::new_sender([0; 16], 0, [0; 6]);
+    let receiver = ccmp::new_receiver([0; 16], 0, [0; 6]);
     Reader {
         book: Book {
             lines: 0,
             stage: Stage::First,
-            sender: Sender {
-                key: [0; 16],
-                key_id: 0,
-                address: [0; 6],
-                last: 0,
-            },
-            receiver: Receiver {
-                key: [0; 16],
-                key_id: 0,
-                peer: [0; 6],
-                replay: [0; 16],
-                format_errors: 0,
-                replays: 0,
-                decrypt_errors: 0,
-                opened: 0,
-            },
+            sender,
+            receiver,
         },
         line: [0; MOST_KEPT],
         length: 0,

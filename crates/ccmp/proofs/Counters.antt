@@ -2,13 +2,13 @@
 use mathlib.Core.Path.{_≡_, refl, sym}
 use mathlib.Core.List.{List, [], _∷_}
 use mathlib.Core.Bool.{true, false, and-false}
-use Prim.Native.Nat.{ℕ, zero, suc, _+_, _-_, _/_, _<_, _≤_}
+use Prim.Native.Nat.{ℕ, zero, suc, _+_, _-_, _<_, _≤_}
 use native.Mathlib.Omega.{arith}
-use borrow.Author.Tests.{lt-leb, le-leb, ne-eqb}
+use borrow.Author.Tests.{lt-leb, le-leb}
 use lib.Dec.{T, eqb, leb, eqb→eq}
 use lib.ListN.{length, getD}
-use Rattle.aes.proofs.Every.{every, every-at, on-octets}
-use Rattle.rules.specs.Records.{allAtMost, countOf, openedCount}
+use Rattle.aes.proofs.Every.{every, every-at}
+use Rattle.rules.specs.Records.{allAtMost, countOf}
 use Rattle.rules.specs.declared.Answer.the-variants.{Refused}
 
 pub some-over : (m : ℕ) (l : List ℕ) (i : ℕ) → i < length l → m < getD l i 0 → allAtMost m l ≡ false
@@ -25,9 +25,3 @@ pub moves : (least n v : ℕ) → T (every (λ k. eqb (countOf (Refused (least +
 moves least n v t x l u =
     let same : least + (x - least) ≡ x = omega arith in
     sym (rw same at (eqb→eq (countOf (Refused (least + (x - least)))) v (every-at (λ k. eqb (countOf (Refused (least + k))) v) n t (x - least) (omega arith))))
-
-pub none-opened : (x : ℕ) → x < 256 → eqb (countOf (Refused x)) openedCount ≡ false
-unfolding countOf
-none-opened x l =
-    ne-eqb (countOf (Refused x)) openedCount
-    (λ e. let low : countOf (Refused x) / openedCount ≡ 0 = on-octets (λ k. countOf (Refused k) / openedCount) (λ k. 0) tt x l in omega arith)

@@ -13,8 +13,11 @@ mod sealing; // sealing.rt: a plain frame sealed
 mod opening; // opening.rt: a sealed frame opened
 
 pub use opening::open;
+pub use record::MOST_KEY_ID;
 pub use record::fresh_receiver;
 pub use record::fresh_sender;
+pub use record::new_receiver;
+pub use record::new_sender;
 pub use sealing::seal;
 
 // What a call on a sender answers, and the sender afterwards.

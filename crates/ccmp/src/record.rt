@@ -2,19 +2,29 @@
 use crate::Opened;
 use crate::Sealed;
 use rules::Answer;
+use rules::Counts;
 use rules::Receiver;
 use rules::Sender;
 ghost use mathlib.Core.Path.{_≡_};
-ghost use mathlib.Core.Bool.{cond};
-ghost use Prim.Native.Nat.{ℕ, _+_, _%_, _<_};
-ghost use lib.Dec.{eqb};
-ghost use Rattle.rules.specs.Limits.{mostNumber, counts};
+ghost use Prim.Native.Nat.{ℕ, _<_};
+ghost use Rattle.rules.specs.Limits.{mostNumber, priorities};
 ghost use Rattle.rules.specs.Answers.{told};
-ghost use Rattle.rules.specs.Records.{allAtMost, soundSender, soundReceiver, freshAnswer, freshSender, freshReceiver, senderNext, countOf, receiverNext};
+ghost use Rattle.rules.specs.Records.{allAtMost, soundSender, soundReceiver, newSender, newReceiver, freshAnswer, freshSender, freshReceiver, senderNext, countOf, counted, countsNext, receiverNext};
 
 pub(crate) const MOST_NUMBER: u64 = 281474976710655;
 
-const MOST_KEY_ID: u8 = 3;
+pub const MOST_KEY_ID: u8 = 3;
+
+// The counts, each by its number in the rules.
+const NO_COUNT: u8 = 0;
+
+const FORMAT_COUNT: u8 = 1;
+
+const REPLAY_COUNT: u8 = 2;
+
+const DECRYPT_COUNT: u8 = 3;
+
+const OPENED_COUNT: u8 = 4;
 
 fn counters_fit(replay: [u64; 16]) -> bool
     ensures { λ r. ⌜ r ≡ allAtMost mostNumber replay ⌝ }
@@ -48,30 +58,52 @@ pub(crate) fn sound_receiver(r: Receiver) -> bool
     counters_fit(replay)
 }
 
+// A sender of these fields that has sealed nothing, whatever its key ID is.
+pub fn new_sender(key: [u8; 16], key_id: u8, address: [u8; 6]) -> Sender
+    ensures { λ r. ⌜ r ≡ newSender key «key_id» address ⌝ }
+{
+    Sender {
+        key,
+        key_id,
+        address,
+        last: 0,
+    }
+}
+
+// A receiver of these fields that has opened nothing, whatever its key ID is.
+pub fn new_receiver(key: [u8; 16], key_id: u8, peer: [u8; 6]) -> Receiver
+    ensures { λ r. ⌜ r ≡ newReceiver key «key_id» peer ⌝ }
+{
+    Receiver {
+        key,
+        key_id,
+        peer,
+        replay: [0; 16],
+        counts: Counts {
+            format_errors: 0,
+            replays: 0,
+            decrypt_errors: 0,
+            opened: 0,
+        },
+    }
+}
+
 // A sender that has sealed nothing. A key ID over 3 is refused with 1 and gives zeros.
 pub fn fresh_sender(key: [u8; 16], key_id: u8, address: [u8; 6]) -> Sealed
     ensures { λ r. ⌜ told (r .answer) ≡ told (freshAnswer «key_id») ⌝ }
     ensures { λ r. ⌜ r .sender ≡ freshSender key «key_id» address ⌝ }
 {
     if MOST_KEY_ID < key_id {
+        let sender = new_sender([0; 16], 0, [0; 6]);
         return Sealed {
             answer: Answer::Refused(1),
-            sender: Sender {
-                key: [0; 16],
-                key_id: 0,
-                address: [0; 6],
-                last: 0,
-            },
+            sender,
         };
     }
+    let sender = new_sender(key, key_id, address);
     Sealed {
         answer: Answer::Done(0, 0, 0),
-        sender: Sender {
-            key,
-            key_id,
-            address,
-            last: 0,
-        },
+        sender,
     }
 }
 
@@ -81,54 +113,50 @@ pub fn fresh_receiver(key: [u8; 16], key_id: u8, peer: [u8; 6]) -> Opened
     ensures { λ r. ⌜ r .receiver ≡ freshReceiver key «key_id» peer ⌝ }
 {
     if MOST_KEY_ID < key_id {
+        let receiver = new_receiver([0; 16], 0, [0; 6]);
         return Opened {
             answer: Answer::Refused(1),
-            receiver: Receiver {
-                key: [0; 16],
-                key_id: 0,
-                peer: [0; 6],
-                replay: [0; 16],
-                format_errors: 0,
-                replays: 0,
-                decrypt_errors: 0,
-                opened: 0,
-            },
+            receiver,
         };
     }
+    let receiver = new_receiver(key, key_id, peer);
     Opened {
         answer: Answer::Done(0, 0, 0),
-        receiver: Receiver {
-            key,
-            key_id,
-            peer,
-            replay: [0; 16],
-            format_errors: 0,
-            replays: 0,
-            decrypt_errors: 0,
-            opened: 0,
-        },
+        receiver,
     }
 }
 
-// The count c, of value v, after an answer that moves the count `moved`.
-fn count(c: u8, moved: u8, v: u32) -> u32
-    ensures { λ r. ⌜ r ≡ cond (eqb moved c) ((v + 1) % counts) v ⌝ }
+// The count c, of value v, where the count m moves.
+fn counted(c: u8, m: u8, v: u32) -> u32
+    ensures { λ r. ⌜ r ≡ counted c m v ⌝ }
 {
-    if moved == c {
+    if m == c {
         return std::num::wrapping_add_u32(v, 1);
     }
     v
 }
 
-// Which count a refusal moves: 0 none, 1 format errors, 2 replays, 3 decrypt errors.
+// The counts where the count m moves.
+fn counts_after(m: u8, c: Counts) -> Counts
+    ensures { λ r. ⌜ r ≡ countsNext m c ⌝ }
+{
+    Counts {
+        format_errors: counted(FORMAT_COUNT, m, c.format_errors),
+        replays: counted(REPLAY_COUNT, m, c.replays),
+        decrypt_errors: counted(DECRYPT_COUNT, m, c.decrypt_errors),
+        opened: counted(OPENED_COUNT, m, c.opened),
+    }
+}
+
+// Which count a refusal moves.
 fn count_of(refusal: u8) -> u8
     ensures { λ r. ⌜ r ≡ countOf (Answer.Refused refusal) ⌝ }
 {
     match refusal {
-        2 | 3 | 4 | 5 | 7 | 8 | 9 => 1,
-        10 => 2,
-        11 => 3,
-        _ => 0,
+        2 | 3 | 4 | 5 | 7 | 8 | 9 => FORMAT_COUNT,
+        10 => REPLAY_COUNT,
+        11 => DECRYPT_COUNT,
+        _ => NO_COUNT,
     }
 }
 
@@ -136,23 +164,24 @@ fn count_of(refusal: u8) -> u8
 pub(crate) fn after_refusal(r: Receiver, refusal: u8) -> Receiver
     ensures { λ s. ⌜ s ≡ receiverNext r (Answer.Refused refusal) ⌝ }
 {
-    let moved = count_of(refusal);
+    let before = r.counts;
+    let counts = counts_after(count_of(refusal), before);
     let mut s = r;
-    s.format_errors = count(1, moved, r.format_errors);
-    s.replays = count(2, moved, r.replays);
-    s.decrypt_errors = count(3, moved, r.decrypt_errors);
+    s.counts = counts;
     s
 }
 
 // The receiver after it has opened number n of priority p.
 pub(crate) fn after_opening(r: Receiver, n: u64, p: u8) -> Receiver
-    requires { ⌜ p < 16 ⌝ }
+    requires { ⌜ p < priorities ⌝ }
     ensures { λ s. ⌜ ((k : ℕ) → s ≡ receiverNext r (Answer.Done n p k)) ⌝ }
 {
     let at = p as usize;
+    let before = r.counts;
+    let counts = counts_after(OPENED_COUNT, before);
     let mut s = r;
     s.replay[at] = n;
-    s.opened = std::num::wrapping_add_u32(r.opened, 1);
+    s.counts = counts;
     s
 }
 

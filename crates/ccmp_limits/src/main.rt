@@ -2,6 +2,7 @@
 // What this must print, the file stdout, was taken from document 01; ` | 01: ` is the answer that it gives, 0 for done.
 use libc::STDOUT_FILENO;
 use rules::Answer;
+use rules::Counts;
 use rules::Receiver;
 use rules::Sender;
 ghost use Prim.Native.Nat.{_≤_, _<_};
@@ -72,15 +73,15 @@ fn print_answer(a: Answer) {
     }
 }
 
-fn print_counts(r: Receiver) {
+fn print_counts(c: Counts) {
     say(b", counts ");
-    number(r.format_errors as u64);
+    number(c.format_errors as u64);
     say(b" ");
-    number(r.replays as u64);
+    number(c.replays as u64);
     say(b" ");
-    number(r.decrypt_errors as u64);
+    number(c.decrypt_errors as u64);
     say(b" ");
-    number(r.opened as u64);
+    number(c.opened as u64);
 }
 
 // The octets that an answer says were written.
@@ -154,7 +155,8 @@ fn opens(
     let answer = opened.answer;
     let next = opened.receiver;
     print_answer(answer);
-    print_counts(next);
+    let counts = next.counts;
+    print_counts(counts);
     print_rest(out, written(answer));
     print_original(out, written(answer), original);
     print_expected(expected);
@@ -171,34 +173,18 @@ fn address() -> [u8; 6] {
 
 // A sender with key ID 2 and this last number.
 fn sender(last: u64) -> Sender {
-    let key = key();
-    let address = address();
-    Sender {
-        key,
-        key_id: 2,
-        address,
-        last,
-    }
+    let mut s = ccmp::new_sender(key(), 2, address());
+    s.last = last;
+    s
 }
 
 // A receiver with key ID 2, and n as the replay counter of priority p.
 fn receiver(p: usize, n: u64) -> Receiver
     requires { ⌜ p < 16 ⌝ }
 {
-    let key = key();
-    let peer = address();
-    let mut replay = [0u64; 16];
-    replay[p] = n;
-    Receiver {
-        key,
-        key_id: 2,
-        peer,
-        replay,
-        format_errors: 0,
-        replays: 0,
-        decrypt_errors: 0,
-        opened: 0,
-    }
+    let mut r = ccmp::new_receiver(key(), 2, address());
+    r.replay[p] = n;
+    r
 }
 
 fn filled() -> [u8; 2400] {
@@ -521,7 +507,8 @@ fn fresh_receiver(key_id: u8, expected: u64) {
     number(key_id as u64);
     say(b": ");
     print_fresh(answer, zero_receiver(r), r.key_id);
-    print_counts(r);
+    let counts = r.counts;
+    print_counts(counts);
     print_expected(expected);
 }
 
@@ -590,10 +577,13 @@ fn counts() {
     let frame = plain(0x08, 0x00);
     let text = text_of(frame, 25, 0);
     let mut r = receiver(0, 0);
-    r.format_errors = MOST_COUNT;
-    r.replays = MOST_COUNT;
-    r.decrypt_errors = MOST_COUNT;
-    r.opened = MOST_COUNT;
+    let full = Counts {
+        format_errors: MOST_COUNT,
+        replays: MOST_COUNT,
+        decrypt_errors: MOST_COUNT,
+        opened: MOST_COUNT,
+    };
+    r.counts = full;
     say(b"full counts, open with no room: ");
     r = opens(r, text, 41, 0, frame, 6);
     say(b"full counts, open 23 octets: ");

@@ -17,6 +17,11 @@ pub struct Receiver {
     pub peer: [u8; 6],
     // The replay counter of each priority.
     pub replay: [u64; 16],
+    pub counts: Counts,
+}
+
+// How many opening calls were answered so, modulo 2^32.
+pub struct Counts {
     pub format_errors: u32,
     pub replays: u32,
     pub decrypt_errors: u32,
