@@ -1,9 +1,11 @@
 -- The four bytes of a word: packing them, turning them and XOR act byte by byte.
-use mathlib.Core.Path.{_≡_, ap, ap₂, _∙_}
+use mathlib.Core.Path.{_≡_, sym, ap, ap₂, _∙_}
 use mathlib.Core.List.{List, [], _∷_}
 use Prim.Native.Nat.{ℕ, _+_, _*_, _/_, _%_, _<_}
+use native.Mathlib.Nat.{div-div-eq-div-mul}
 use native.Mathlib.Omega.{arith}
 use lib.Bits.{bitXor, bitOr, or-shifted-r, xor-mod, xor-shr}
+use Rattle.octets.proofs.Digits.{digit}
 use Rattle.aes.specs.Field.{_⊕_}
 use Rattle.aes.specs.KeyExpansion.{rotWord, xorWord}
 use Rattle.aes.specs.Word.{bytes}
@@ -11,27 +13,13 @@ use Rattle.aes.specs.Word.{bytes}
 pub bytes-are : (x a b c d : ℕ) → x % 256 ≡ a → x / 256 % 256 ≡ b → x / 65536 % 256 ≡ c → x / 16777216 ≡ d → bytes x ≡ a ∷ b ∷ c ∷ d ∷ []
 bytes-are x a b c d p q s t = λ i. p i ∷ q i ∷ s i ∷ t i ∷ []
 
-low : (a m : ℕ) → a < 256 → (a + 256 * m) % 256 ≡ a
-low a m h = omega arith
-
-high : (a m : ℕ) → a < 256 → (a + 256 * m) / 256 ≡ m
-high a m h = omega arith
-
-twice : (x : ℕ) → x / 65536 ≡ x / 256 / 256
-twice x = omega arith
-
-thrice : (x : ℕ) → x / 16777216 ≡ x / 256 / 256 / 256
-thrice x = omega arith
-
 -- a number of four digits to the base 256
 digits : (x a b c d : ℕ) → a < 256 → b < 256 → c < 256 → x ≡ a + 256 * (b + 256 * (c + 256 * d)) → bytes x ≡ a ∷ b ∷ c ∷ d ∷ []
 digits x a b c d ha hb hc e =
-    let m₂ : ℕ = c + 256 * d in
-    let m₁ : ℕ = b + 256 * m₂ in
-    let e₁ : x / 256 ≡ m₁ = ap (λ (n : ℕ). n / 256) e ∙ high a m₁ ha in
-    let e₂ : x / 256 / 256 ≡ m₂ = ap (λ (n : ℕ). n / 256) e₁ ∙ high b m₂ hb in
-    bytes-are x a b c d (ap (λ (n : ℕ). n % 256) e ∙ low a m₁ ha) (ap (λ (n : ℕ). n % 256) e₁ ∙ low b m₂ hb)
-    (ap (λ (n : ℕ). n % 256) (twice x ∙ e₂) ∙ low c d hc) (thrice x ∙ ap (λ (n : ℕ). n / 256) e₂ ∙ high c d hc)
+    let s₀ = digit x a (b + 256 * (c + 256 * d)) e ha in
+    let s₁ = digit (x / 256) b (c + 256 * d) (s₀ .1) hb in
+    let s₂ = digit (x / 65536) c d (sym (div-div-eq-div-mul x 256 256) ∙ s₁ .1) hc in
+    bytes-are x a b c d (s₀ .0) (s₁ .0) (s₂ .0) (sym (div-div-eq-div-mul x 65536 256) ∙ s₂ .1)
 
 -- a word as `pack` makes it
 pub packed : (a b c d : ℕ) → a < 256 → b < 256 → c < 256 → d < 256

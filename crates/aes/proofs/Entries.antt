@@ -9,7 +9,7 @@ use Rattle.aes.specs.Field.{_•_}
 use Rattle.aes.specs.Cipher.{sbox}
 use Rattle.aes.specs.Word.{bytes, products, Products}
 use Rattle.aes.proofs.Bytes.{bytes-are}
-use Rattle.aes.proofs.Every.{left, right, every, every-at}
+use Rattle.octets.proofs.Every.{left, right, every, every-at}
 
 -- the bytes of x are 2 • s, s, s and 3 • s
 abbrev holds : ℕ → ℕ → Bool

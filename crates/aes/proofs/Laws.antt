@@ -8,12 +8,12 @@ use native.Mathlib.Omega.{arith}
 use lib.Bits.{xor-lt}
 use lib.Dec.{ltb, eqb, ltb→lt, lit<}
 use lib.ListN.{length, getD, length-append}
-use Rattle.aes.specs.Octets.{Octets, none, more}
+use Rattle.octets.specs.Octets.{Octets, none, more}
 use Rattle.aes.specs.Field.{_⊕_, inverse}
 use Rattle.aes.specs.Cipher.{byteAt, word, wordAt, columns, affineBit, affine, sbox, subBytes, shiftRows, addRoundKey, rounds, cipher}
 use Rattle.aes.specs.KeyExpansion.{subWord, rotWord, xorWord, roundConstants, rcon, temp, schedule, keyExpansion, aes128}
-use Rattle.aes.proofs.Every.{every-at}
-use Rattle.aes.proofs.Octets.{octet-at, octets-from, octets-append}
+use Rattle.octets.proofs.Every.{every-at}
+use Rattle.octets.proofs.Octets.{octet-at, octets-from, octets-append}
 
 pub octet-⊕ : (a b : ℕ) → a < 256 → b < 256 → a ⊕ b < 256
 unfolding _⊕_

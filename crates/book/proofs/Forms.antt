@@ -10,8 +10,8 @@ use native.Mathlib.Numerals.{add-one}
 use borrow.Author.Tests.{lt-ltb, le-ltb, ne-eqb}
 use lib.ListN.{length, take, drop, getD, length-drop}
 use lib.Seq.{take-all, ext-getD}
-use Rattle.ccm.specs.Ccm.{same}
-use Rattle.ccm.proofs.Laws.{same-refl, same-is}
+use Rattle.octets.specs.Octets.{same}
+use Rattle.octets.proofs.Same.{same-refl, same-is}
 use Rattle.bytes.specs.Bytes.{slice, indexOf}
 use Rattle.book.specs.Limits.{mostLine}
 use Rattle.book.specs.Hex.{octetsOf}

@@ -10,11 +10,10 @@ use borrow.Author.Tests.{eqb-true, eq-eqb, leb-true, le-leb, le-ltb}
 use lib.Dec.{ltb, eqb}
 use lib.ListN.{length, take, drop, getD, length-drop}
 use lib.Seq.{length-take-le, take-all, drop-drop, drop-cons}
-use Rattle.ccm.specs.Ccm.{same}
-use Rattle.ccm.proofs.Laws.{same-is}
-use Rattle.rules.specs.Sealing.{contents}
-use Rattle.rules.specs.Opening.{isNone}
-use Rattle.rules.proofs.Passing.{both}
+use Rattle.octets.specs.Octets.{same}
+use Rattle.octets.specs.Options.{contents, isNone}
+use Rattle.octets.proofs.Booleans.{both}
+use Rattle.octets.proofs.Same.{same-is}
 use Rattle.bytes.specs.Bytes.{slice, indexOf}
 use Rattle.book.specs.Limits.{mostLine}
 use Rattle.book.specs.declared.line.Keys.{Keys}

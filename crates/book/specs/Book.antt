@@ -3,10 +3,11 @@ use mathlib.Core.Bool.{cond}
 use mathlib.Core.List.{List, [], _∷_}
 use Prim.Native.Nat.{ℕ, _+_, _%_, _^_}
 use lib.ListN.{length, take, getD, replicate}
+use Rattle.octets.specs.Options.{contents}
 use Rattle.rules.specs.Limits.{added}
 use Rattle.rules.specs.Records.{zeroSender, zeroReceiver, freshSender, freshReceiver, senderNext, receiverNext}
 use Rattle.rules.specs.Answers.{answerNumber}
-use Rattle.rules.specs.Sealing.{contents, sealAnswer, sealOutput}
+use Rattle.rules.specs.Sealing.{sealAnswer, sealOutput}
 use Rattle.rules.specs.Opening.{openAnswer, openOutput}
 use Rattle.rules.specs.declared.Sender.{Sender}
 use Rattle.rules.specs.declared.Receiver.{Receiver}

@@ -4,8 +4,8 @@ use mathlib.Core.List.{List, [], _∷_, _++_}
 use mathlib.Core.Option.{Option, none, some}
 use Prim.Native.Nat.{ℕ}
 use lib.ListN.{length, take, drop, getD}
+use Rattle.octets.specs.Options.{contents}
 use Rattle.rules.specs.Answers.{answerNumber}
-use Rattle.rules.specs.Sealing.{contents}
 use Rattle.rules.specs.declared.Answer.{Answer}
 use Rattle.rules.specs.declared.Answer.the-variants.{Done, Refused}
 use Rattle.book.specs.declared.hex.Read.{Read}

@@ -5,9 +5,9 @@ use mathlib.Core.Option.{Option, none, some}
 use Prim.Native.Nat.{ℕ, _*_}
 use lib.Dec.{ltb, leb, eqb}
 use lib.ListN.{length, getD}
-use Rattle.ccm.specs.Ccm.{same}
+use Rattle.octets.specs.Octets.{same}
+use Rattle.octets.specs.Options.{isNone}
 use Rattle.rules.specs.Limits.{mostKeyId}
-use Rattle.rules.specs.Opening.{isNone}
 use Rattle.book.specs.Limits.{mostLine}
 use Rattle.book.specs.Hex.{digit, octetsOf}
 use Rattle.book.specs.Text.{tab, parts}

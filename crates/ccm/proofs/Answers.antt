@@ -8,8 +8,10 @@ use native.Mathlib.Omega.{arith}
 use lib.ListN.{length, take, drop, length-take, length-drop}
 use lib.Seq.{take-all, take-at, drop-at, drop-drop}
 use borrow.Author.Tests.{le-leb, lt-leb}
+use Rattle.octets.specs.Octets.{same}
+use Rattle.octets.specs.Options.{when}
 use Rattle.ccm.specs.Blocks.{BlockCipher}
-use Rattle.ccm.specs.Ccm.{masked, U, inLimits, when, same, sealed, opened}
+use Rattle.ccm.specs.Ccm.{masked, U, inLimits, sealed, opened}
 use Rattle.ccm.specs.Room.{fitting, outcome, written}
 use Rattle.ccm.specs.declared.Outcome.{Outcome}
 use Rattle.ccm.specs.declared.Outcome.the-variants.{Done, Refused}

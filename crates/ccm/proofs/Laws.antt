@@ -1,51 +1,32 @@
 -- The laws of CCM, for any cipher whose blocks have 16 octets and a code of at most 16: lengths, octets, and that sealing and opening undo
 -- each other.
-use mathlib.Core.Path.{_≡_, refl, sym, ap, ap₂, subst, _∙_}
-use mathlib.Core.Bool.{Bool, true, false, _&&_}
+use mathlib.Core.Path.{_≡_, sym, ap, ap₂, subst, _∙_}
+use mathlib.Core.Bool.{true, _&&_}
 use mathlib.Core.List.{List, [], _∷_, _++_}
-use mathlib.Core.Option.{Option, some}
+use mathlib.Core.Option.{some}
 use Prim.Native.Nat.{ℕ, zero, suc, _+_, _-_, _≤_}
 use native.Mathlib.Omega.{arith}
 use lib.Bits.{xor-lt}
-use lib.Dec.{leb, eqb}
+use lib.Dec.{leb}
 use lib.ListN.{length, take, drop, length-append, length-take, take-append-drop}
 use lib.Seq.{take-at, drop-at}
-use borrow.Author.Tests.{le-leb, leb-true, eq-eqb, eqb-true}
-use Rattle.aes.specs.Octets.{Octets, none, more}
-use Rattle.aes.proofs.Octets.{octets-append, octets-take}
+use borrow.Author.Tests.{le-leb, leb-true}
+use Rattle.octets.specs.Octets.{Octets, none, more, same}
+use Rattle.octets.specs.Options.{when}
+use Rattle.octets.proofs.Booleans.{both}
+use Rattle.octets.proofs.Octets.{octets-append, octets-take}
+use Rattle.octets.proofs.Options.{when-some, some-is}
+use Rattle.octets.proofs.Same.{same-refl, same-is}
 use Rattle.ccm.specs.Blocks.{xors, blocks, count, BlockCipher}
-use Rattle.ccm.specs.Ccm.{B₀, coded, chain, X, S, keyStream, masked, U, inLimits, when, same, sealed, opened}
+use Rattle.ccm.specs.Ccm.{B₀, coded, chain, X, S, keyStream, masked, U, inLimits, sealed, opened}
 use Rattle.ccm.proofs.Strings.{length-xors}
 use Rattle.ccm.proofs.Splitting.{length-chain, length-S, length-masked, masked-masked}
-
-and-true : (b c : Bool) → b && c ≡ true → (b ≡ true) × (c ≡ true)
-and-true true c e = (refl, e)
-and-true false c e = let z : false ≡ true = e in (z, cc)
-
-when-some : (b : Bool) (o : Option (List ℕ)) (r : List ℕ) → when b o ≡ some r → (b ≡ true) × (o ≡ some r)
-when-some true o r e = (refl, e)
-when-some false o r e = let z : false ≡ true = cc in (z, cc)
-
-some-is : (x y : List ℕ) → some x ≡ some y → x ≡ y
-some-is x y e = cc
-
-pub same-refl : (xs : List ℕ) → same xs xs ≡ true
-same-refl [] = refl
-same-refl (x ∷ xs) = rw (eq-eqb x x refl) (same-refl xs)
-
-pub same-is : (xs ys : List ℕ) → same xs ys ≡ true → xs ≡ ys
-same-is [] [] e = refl
-same-is [] (y ∷ ys) e = cc
-same-is (x ∷ xs) [] e = cc
-same-is (x ∷ xs) (y ∷ ys) e =
-    let h = and-true (eqb x y) (same xs ys) e in
-    ap₂ (λ (a : ℕ) (l : List ℕ). a ∷ l) (eqb-true x y (h .0)) (same-is xs ys (h .1))
 
 pub in-limits : (a m : ℕ) → inLimits a m ≡ true → (1 ≤ a) × (a ≤ 64) × (m ≤ 65535)
 unfolding inLimits
 in-limits a m e =
-    let h = and-true (leb 1 a) (leb a 64 && leb m 65535) e in
-    let k = and-true (leb a 64) (leb m 65535) (h .1) in
+    let h = both (leb 1 a) (leb a 64 && leb m 65535) e in
+    let k = both (leb a 64) (leb m 65535) (h .1) in
     (leb-true 1 a (h .0), leb-true a 64 (k .0), leb-true m 65535 (k .1))
 
 pub limits-hold : (a m : ℕ) → 1 ≤ a → a ≤ 64 → m ≤ 65535 → inLimits a m ≡ true

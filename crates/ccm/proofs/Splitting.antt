@@ -2,19 +2,15 @@
 use mathlib.Core.Path.{_≡_, refl, sym, ap, ap₂, _∙_}
 use mathlib.Core.Logic.{_⊎_, inl, inr, ⊎-elim}
 use mathlib.Core.List.{List, [], _∷_, _++_, append-nil}
-use Prim.Native.Nat.{ℕ, zero, suc, _+_, _*_, _/_, _≤_, _<_, zero-le, suc-le-suc}
+use Prim.Native.Nat.{ℕ, zero, suc, _+_, _*_, _/_, _≤_, _<_}
 use native.Mathlib.Nat.{not-suc-le-zero}
 use native.Mathlib.Omega.{arith}
 use lib.ListN.{length, take, drop, length-append, length-take, length-drop, drop-of-length-le}
 use lib.Seq.{take-all, take-at, drop-at}
+use Rattle.octets.proofs.Orders.{le-or-lt}
 use Rattle.ccm.specs.Blocks.{xors, padded, count, firstBlocks, blocks, BlockCipher}
 use Rattle.ccm.specs.Ccm.{chain, S, keyStream, masked}
 use Rattle.ccm.proofs.Strings.{length-xors, xors-append, xors-cancel}
-
-pub le-or-le : (a b : ℕ) → (a ≤ b) ⊎ (b ≤ a)
-le-or-le zero b = inl zero-le
-le-or-le (suc a) zero = inr zero-le
-le-or-le (suc a) (suc b) = ⊎-elim (λ p. inl (suc-le-suc p)) (λ q. inr (suc-le-suc q)) (le-or-le a b)
 
 count-more : (s : List ℕ) → 0 < length s → count s ≡ suc (count (drop 16 s))
 unfolding count
@@ -92,7 +88,7 @@ module _ (E : List ℕ → List ℕ) (hE : BlockCipher E) where
       let d = masked E N (suc i) (drop 16 s) in
       let lc : length c ≡ length (take 16 s) = length-xors (take 16 s) (S E N i) (omega (arith, length-S N i, length-take 16 s)) in
       let w : (length c ≡ 16) ⊎ (d ≡ [])
-      = ⊎-elim (λ le. inr (masked-none E N (suc i) (drop 16 s) (omega (arith, length-drop 16 s)))) (λ ge. inl (omega (arith, length-take 16 s))) (le-or-le (length s) 16) in
+      = ⊎-elim (λ le. inr (masked-none E N (suc i) (drop 16 s) (omega (arith, length-drop 16 s)))) (λ gt. inl (omega (arith, length-take 16 s))) (le-or-lt (length s) 16) in
       let k = cut c d (omega (arith, length-take 16 s)) w in
       blocks-more (masked E N i s) (omega (arith, length-masked N i s))
       ∙ ap (λ (l : List ℕ). padded (take 16 l) ∷ blocks (drop 16 l)) (masked-more N i s h)

@@ -1,14 +1,14 @@
--- Octet strings: XOR of two, and a string that a loop fills from the front.
+-- XOR of two octet strings.
 use mathlib.Core.Path.{_≡_, refl, sym, ap, ap₂, _∙_}
-use mathlib.Core.List.{List, [], _∷_, _++_, append-nil}
+use mathlib.Core.List.{List, [], _∷_, _++_}
 use Prim.Native.Nat.{ℕ, zero, suc, _+_, _-_, _*_, _/_, _%_, _≤_, _<_}
 use native.Mathlib.Nat.{mod-lt, div-add-mod', le-of-suc-le-suc, not-suc-le-zero, zero-lt-suc}
-use native.Mathlib.Numerals.{add-one}
 use native.Mathlib.Omega.{arith}
 use lib.Arith.{bin-ind}
 use lib.Bits.{bitXor, differ, xor-step, xor-shr, xor-mod, xor-self, xor-comm, xor-zero-r}
-use lib.ListN.{length, getD, set, take, drop, replicate, length-append, length-take, length-drop, length-replicate, drop-of-length-le}
-use lib.Seq.{take-all, take-at}
+use lib.ListN.{length, getD, set, take, drop, replicate, length-append, length-take, length-drop, length-replicate}
+use lib.Seq.{take-at}
+use Rattle.octets.proofs.Lists.{laid, lay, unlaid}
 use Rattle.ccm.specs.Blocks.{xors, padded}
 
 -- two bits: the second, added twice, cancels
@@ -68,31 +68,6 @@ getD-xors (x ∷ xs) [] zs i p q = absurd (not-suc-le-zero q)
 getD-xors (x ∷ xs) (y ∷ ys) zs zero p q = refl
 getD-xors (x ∷ xs) (y ∷ ys) zs (suc i) p q = getD-xors xs ys zs i (le-of-suc-le-suc p) (le-of-suc-le-suc q)
 
--- the first i octets of t, and then those of d
-abbrev pub laid : ℕ → List ℕ → List ℕ → List ℕ
-laid i t d = take i t ++ drop i d
-
-lay-suc : (i : ℕ) (t d : List ℕ) → i < length t → i < length d → set (laid i t d) i (getD t i 0) ≡ laid (suc i) t d
-lay-suc i [] d h k = absurd (not-suc-le-zero h)
-lay-suc i (x ∷ t) [] h k = absurd (not-suc-le-zero k)
-lay-suc zero (x ∷ t) (y ∷ d) h k = refl
-lay-suc (suc i) (x ∷ t) (y ∷ d) h k = ap (λ (l : List ℕ). x ∷ l) (lay-suc i t d (le-of-suc-le-suc h) (le-of-suc-le-suc k))
-
--- one more is laid
-pub lay : (i : ℕ) (t d r : List ℕ) (v : ℕ) → i < length t → i < length d → v ≡ getD t i 0 → r ≡ laid i t d → set r i v ≡ laid (i + 1) t d
-lay i t d r v h k e p = rw (p, e, lay-suc i t d h k, add-one i)
-
--- what is not laid yet is as it was
-unlaid : (i : ℕ) (t d : List ℕ) → i < length t → i < length d → getD (laid i t d) i 0 ≡ getD d i 0
-unlaid i [] d h k = absurd (not-suc-le-zero h)
-unlaid i (x ∷ t) [] h k = absurd (not-suc-le-zero k)
-unlaid zero (x ∷ t) (y ∷ d) h k = refl
-unlaid (suc i) (x ∷ t) (y ∷ d) h k = unlaid i t d (le-of-suc-le-suc h) (le-of-suc-le-suc k)
-
--- all is laid
-pub laid-all : (n : ℕ) (t d : List ℕ) → length t ≤ n → length d ≤ n → laid n t d ≡ t
-laid-all n t d h k = ap (λ (l : List ℕ). take n t ++ l) (drop-of-length-le d k) ∙ append-nil (take n t) ∙ take-all n t h
-
 module _ (x s : List ℕ) (lx : length x ≡ 16) (ls : length s ≤ 16) where
   pub length-padded : length (padded s) ≡ 16
   unfolding padded
@@ -122,18 +97,3 @@ module _ (x s : List ℕ) (lx : length x ≡ 16) (ls : length s ≤ 16) where
       ∙ ap (λ (l : List ℕ). f ++ l) (xors-zeros (16 - n) (drop n x) (omega (arith, length-drop n x))) in
       let lf : length f ≡ n = length-xors (take n x) s (omega (arith, length-take n x)) ∙ omega (arith, length-take n x) in
       ap (λ (l : List ℕ). take n l ++ drop n x) e ∙ ap (λ (l : List ℕ). l ++ drop n x) (take-at f (drop n x) n lf) ∙ sym e
-
--- a string by its octets
-abbrev listed : ℕ → ℕ → List ℕ → List ℕ
-listed zero i s = []
-listed (suc k) i s = getD s i 0 ∷ listed k (suc i) s
-
-listed-tail : (k i x : ℕ) (s : List ℕ) → listed k (suc i) (x ∷ s) ≡ listed k i s
-listed-tail zero i x s = refl
-listed-tail (suc k) i x s = ap (λ (l : List ℕ). getD s i 0 ∷ l) (listed-tail k (suc i) x s)
-
-pub listed-is : (k : ℕ) (s : List ℕ) → length s ≡ k → listed k 0 s ≡ s
-listed-is zero [] h = refl
-listed-is zero (x ∷ s) h = absurd (not-suc-le-zero (let z : suc (length s) ≤ 0 = omega arith in z))
-listed-is (suc k) [] h = absurd (not-suc-le-zero (let z : suc k ≤ 0 = omega arith in z))
-listed-is (suc k) (x ∷ s) h = ap (λ (l : List ℕ). x ∷ l) (listed-tail k 0 x s ∙ listed-is k s (omega arith))

@@ -6,18 +6,19 @@ use Prim.Native.Nat.{ℕ, suc, _+_, _-_, _/_, _≤_, _<_, min}
 use native.Mathlib.Omega.{arith}
 use lib.ListN.{length, take, drop, replicate, length-append, length-take, length-drop, drop-of-length-le}
 use lib.Seq.{drop-drop, take-all, take-at}
+use Rattle.octets.proofs.Orders.{le-or-lt}
 use Rattle.ccm.specs.Blocks.{xors, padded, blocks, BlockCipher}
 use Rattle.ccm.specs.Ccm.{chain, S, masked}
 use Rattle.ccm.proofs.Strings.{xors-flip}
-use Rattle.ccm.proofs.Splitting.{le-or-le, blocks-more, blocks-none, length-S, masked-none, masked-more, blocks-masked}
+use Rattle.ccm.proofs.Splitting.{blocks-more, blocks-none, length-S, masked-none, masked-more, blocks-masked}
 
 -- the block that starts at `at`
 module _ (s : List ℕ) (at end : ℕ) (h : at < length s) (e : end ≡ min (at + 16) (length s)) where
   pub block-is : take (end - at) (drop at s) ≡ take 16 (drop at s)
   block-is =
       ⊎-elim (λ le. take-all (end - at) (drop at s) (omega (arith, length-drop at s)) ∙ sym (take-all 16 (drop at s) (omega (arith, length-drop at s))))
-      (λ ge. let k : end - at ≡ 16 = omega arith in ap (λ (n : ℕ). take n (drop at s)) k)
-      (le-or-le (length s) (at + 16))
+      (λ gt. let k : end - at ≡ 16 = omega arith in ap (λ (n : ℕ). take n (drop at s)) k)
+      (le-or-lt (length s) (at + 16))
 
   pub length-block : length (take (end - at) (drop at s)) ≡ end - at
   length-block = omega (arith, length-take (end - at) (drop at s), length-drop at s)
@@ -40,8 +41,8 @@ module _ (s : List ℕ) (at end : ℕ) (h : at < length s) (e : end ≡ min (at 
       ∙ ⊎-elim
       (λ le. ap (λ (l : List ℕ). take (at + 16) (front ++ l)) (drop-of-length-le (drop at out) {i = end - at} (omega (arith, length-drop at out)))
       ∙ ap (take (at + 16)) (append-nil front) ∙ take-all (at + 16) front (omega arith))
-      (λ ge. take-at front rest (at + 16) (omega arith))
-      (le-or-le (length s) (at + 16))
+      (λ gt. take-at front rest (at + 16) (omega arith))
+      (le-or-lt (length s) (at + 16))
 
   pub length-spliced : (out ys : List ℕ) → length out ≡ length s → length ys ≡ end - at
       → length (take at out ++ (ys ++ drop (end - at) (drop at out))) ≡ length s

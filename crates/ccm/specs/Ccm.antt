@@ -1,10 +1,12 @@
 -- RFC 3610, CCM, over a block cipher E (with its key), the code's length M and L = 2. N is the nonce, a the authenticated data, m the message.
-use mathlib.Core.Bool.{Bool, true, false, _&&_}
+use mathlib.Core.Bool.{Bool, _&&_}
 use mathlib.Core.List.{List, [], _∷_, _++_}
-use mathlib.Core.Option.{Option, none, some}
+use mathlib.Core.Option.{Option, some}
 use Prim.Native.Nat.{ℕ, zero, suc, _+_, _-_, _*_, _/_}
-use lib.Dec.{leb, eqb}
+use lib.Dec.{leb}
 use lib.ListN.{length, take, drop}
+use Rattle.octets.specs.Octets.{same}
+use Rattle.octets.specs.Options.{when}
 use Rattle.ccm.specs.Blocks.{xors, twoOctets, count, blocks}
 
 -- 2.2 and 2.3: the layout that B_0 and A_i share: Flags, nonce, a number
@@ -53,16 +55,6 @@ module _ (E : List ℕ → List ℕ) where
 -- the limits of document 01, "AES and CCM": 1 to 64 octets of authenticated data, and a message of at most 65,535
 unfoldable pub inLimits : ℕ → ℕ → Bool
 inLimits a m = leb 1 a && (leb a 64 && leb m 65535)
-
-abbrev pub when : Bool → Option (List ℕ) → Option (List ℕ)
-when true o = o
-when false o = none
-
-abbrev pub same : List ℕ → List ℕ → Bool
-same [] [] = true
-same [] (y ∷ ys) = false
-same (x ∷ xs) [] = false
-same (x ∷ xs) (y ∷ ys) = eqb x y && same xs ys
 
 module _ (E : List ℕ → List ℕ) (M : ℕ) (N a : List ℕ) where
   -- 2.4: the encrypted message and the code

@@ -4,9 +4,9 @@ use mathlib.Core.Option.{Option, none, some}
 use Prim.Native.Nat.{ℕ}
 use lib.Dec.{leb}
 use lib.ListN.{length, drop}
+use Rattle.octets.specs.Options.{when}
 use Rattle.ccm.specs.declared.Outcome.{Outcome}
 use Rattle.ccm.specs.declared.Outcome.the-variants.{Done, Refused}
-use Rattle.ccm.specs.Ccm.{when}
 
 -- the text, where the room holds it
 abbrev pub fitting : List ℕ → Option (List ℕ) → Option (List ℕ)

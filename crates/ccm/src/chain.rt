@@ -4,7 +4,6 @@ use crate::blocks::copy;
 use crate::blocks::formatted;
 use crate::blocks::xor;
 ghost use mathlib.Core.Path.{_≡_};
-ghost use mathlib.Core.List.{_++_};
 ghost use Prim.Native.Nat.{_+_, _≤_, _<_};
 ghost use lib.ListN.{length, take};
 ghost use Rattle.aes.specs.Cipher.{cipher};

@@ -1,5 +1,4 @@
 // RFC 3610, sections 2.3 and 2.5: the code, made and compared. The code is the first 8 of 16 octets.
-use crate::blocks::xor;
 use crate::chain::absorb;
 use crate::chain::begin;
 use crate::stream::absorb_masked;
@@ -7,8 +6,9 @@ use crate::stream::mask_block;
 ghost use mathlib.Core.Path.{_≡_};
 ghost use Prim.Native.Nat.{_≤_};
 ghost use lib.ListN.{length, take};
+ghost use Rattle.octets.specs.Octets.{same};
 ghost use Rattle.aes.specs.Cipher.{cipher};
-ghost use Rattle.ccm.specs.Ccm.{U, masked, same};
+ghost use Rattle.ccm.specs.Ccm.{U, masked};
 
 // The code of a message.
 pub(crate) fn code_of(w: &[u8; 176], nonce: [u8; 13], aad: &[u8], body: &[u8]) -> [u8; 16]
@@ -29,20 +29,6 @@ fn code_of_masked(w: &[u8; 176], nonce: [u8; 13], aad: &[u8], text: &[u8]) -> [u
     mask_block(w, nonce, 0, &absorb_masked(w, nonce, first, text))
 }
 
-// Whether two strings of 8 octets are the same: each octet is compared, whatever the others are.
-pub(crate) fn equal(a: &[u8], b: &[u8]) -> bool
-    requires { ⌜ (length (now a) ≡ 8) × (length (now b) ≡ 8) ⌝ }
-    ensures { λ r. ⌜ r ≡ same (now (a .entry)) (now (b .entry)) ⌝ }
-{
-    let mut differ = 0u8;
-    let mut i: usize = 0;
-    while i < a.len() {
-        differ = differ | (a[i] ^ b[i]);
-        i += 1;
-    }
-    differ == 0
-}
-
 // Whether code is the code of what text decrypts to.
 pub(crate) fn verified(w: &[u8; 176], nonce: [u8; 13], aad: &[u8], text: &[u8], code: &[u8]) -> bool
     requires { ⌜ (length (now aad) ≤ 64) × (length (now text) ≤ 65535) × (length (now code) ≡ 8) ⌝ }
@@ -50,5 +36,5 @@ pub(crate) fn verified(w: &[u8; 176], nonce: [u8; 13], aad: &[u8], text: &[u8], 
         r ≡ same (U (cipher 10 (now (w .entry))) 8 nonce (now (aad .entry)) (masked (cipher 10 (now (w .entry))) nonce 1 (now (text .entry)))) (now (code .entry)) ⌝ }
 {
     let right = code_of_masked(w, nonce, aad, text);
-    equal(&right[0..8], code)
+    octets::equal(&right[0..8], code)
 }

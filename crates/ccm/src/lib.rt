@@ -6,7 +6,6 @@ mod code; // code.rt: the code of a message, in clear or encrypted
 
 use blocks::copy;
 use code::code_of;
-use code::equal;
 use code::verified;
 use stream::mask;
 ghost use mathlib.Core.Path.{_≡_};
@@ -86,7 +85,7 @@ fn open_short(w: &[u8; 176], nonce: [u8; 13], aad: &[u8], text: &[u8], out: &mut
     let mut message = [0u8; SHORT];
     mask(w, nonce, &text[0..n], &mut message[0..n]);
     let code = code_of(w, nonce, aad, &message[0..n]);
-    if !equal(&code[0..CODE], &text[n..]) {
+    if !octets::equal(&code[0..CODE], &text[n..]) {
         return Outcome::Refused;
     }
     copy(&message[0..n], &mut out[0..n]);

@@ -5,12 +5,13 @@ use mathlib.Core.List.{List, _++_}
 use Prim.Native.Nat.{ℕ, _+_, _-_, _≤_}
 use borrow.Author.Tests.{ltb-false}
 use lib.ListN.{length, take, drop}
+use Rattle.octets.specs.Options.{isNone}
 use Rattle.rules.specs.Header.{headerLength, priority}
 use Rattle.rules.specs.Nonce.{number}
 use Rattle.rules.specs.Records.{senderNext, receiverNext}
 use Rattle.rules.specs.Answers.{Test, told, written}
 use Rattle.rules.specs.Sealing.{sealedFrame, sealTests, sealAnswer, sealOutput}
-use Rattle.rules.specs.Opening.{openedBody, isNone, openedFrame, openTests, openAnswer, openOutput}
+use Rattle.rules.specs.Opening.{openedBody, openedFrame, openTests, openAnswer, openOutput}
 use Rattle.rules.specs.declared.Sender.{Sender}
 use Rattle.rules.specs.declared.Receiver.{Receiver}
 use Rattle.rules.specs.declared.Answer.{Answer}

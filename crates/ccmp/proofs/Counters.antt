@@ -7,7 +7,7 @@ use native.Mathlib.Omega.{arith}
 use borrow.Author.Tests.{lt-leb, le-leb}
 use lib.Dec.{T, eqb, leb, eqb→eq}
 use lib.ListN.{length, getD}
-use Rattle.aes.proofs.Every.{every, every-at}
+use Rattle.octets.proofs.Every.{every, every-at}
 use Rattle.rules.specs.Records.{allAtMost, countOf}
 use Rattle.rules.specs.declared.Answer.the-variants.{Refused}
 

@@ -4,7 +4,7 @@ use mathlib.Core.List.{List, [], _∷_}
 use Prim.Native.Nat.{ℕ}
 use lib.Dec.{ltb, eqb}
 use lib.ListN.{length}
-use Rattle.ccm.specs.Ccm.{same}
+use Rattle.octets.specs.Octets.{same}
 use Rattle.rules.specs.Limits.{leastHeader}
 use Rattle.rules.specs.Header.{headerLength, address2, priority, protected, wrongKind}
 use Rattle.rules.specs.Nonce.{ccmpOf, extended, keyIdIn, number}

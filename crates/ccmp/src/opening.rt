@@ -23,11 +23,12 @@ ghost use mathlib.Core.Bool.{cond, not};
 ghost use mathlib.Core.List.{_++_};
 ghost use Prim.Native.Nat.{_+_, _-_, _≤_, _<_};
 ghost use lib.ListN.{length, take, drop};
+ghost use Rattle.octets.specs.Options.{isNone};
 ghost use Rattle.rules.specs.Header.{headerLength, priority};
 ghost use Rattle.rules.specs.Nonce.{number};
 ghost use Rattle.rules.specs.Records.{receiverNext};
 ghost use Rattle.rules.specs.Answers.{told};
-ghost use Rattle.rules.specs.Opening.{openedBody, isNone, openedFrame, openTests, openAnswer, openOutput};
+ghost use Rattle.rules.specs.Opening.{openedBody, openedFrame, openTests, openAnswer, openOutput};
 ghost use Rattle.ccmp.specs.Tests.{refusal, ccmpTests};
 
 // Tests 8, 9 and 10: ExtIV, the key ID and the replay counter.

@@ -10,11 +10,12 @@ use borrow.Author.Tests.{eq-eqb, ne-eqb, le-ltb, lt-leb}
 use lib.Dec.{leb}
 use lib.ListN.{length, take, drop, getD, length-drop, length-set, length-append, List·getD-append, take-append-drop}
 use lib.Seq.{getD-take, getD-set-same, getD-set-other, length-take-le, take-at, drop-at}
+use Rattle.octets.specs.Options.{contents}
 use Rattle.rules.specs.Limits.{mostNumber}
 use Rattle.rules.specs.Header.{part, headerLength, address2, priority, protected, authenticated, protect, unprotect}
 use Rattle.rules.specs.Nonce.{nonce, ccmpHeader, ccmpOf, textOf, extended, keyIdIn, number}
 use Rattle.rules.specs.Records.{soundReceiver}
-use Rattle.rules.specs.Sealing.{contents, sealedText, sealedFrame, sealAnswer, sealOutput}
+use Rattle.rules.specs.Sealing.{sealedText, sealedFrame, sealAnswer, sealOutput}
 use Rattle.rules.specs.Opening.{openedBody, openedFrame, openAnswer, openOutput}
 use Rattle.rules.specs.Demand2.{Match, OpeningUndoesSealing}
 use Rattle.rules.specs.declared.Sender.{Sender}

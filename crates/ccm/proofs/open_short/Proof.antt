@@ -8,8 +8,9 @@ use lib.Seq.{take-at}
 use lib.Dec.{lit≤}
 use borrow.Author.Tests.{not-true, not-false}
 use borrow.Author.Needs.{needs}
+use Rattle.octets.specs.Octets.{same}
 use Rattle.aes.specs.Cipher.{cipher}
-use Rattle.ccm.specs.Ccm.{masked, U, same}
+use Rattle.ccm.specs.Ccm.{masked, U}
 use Rattle.aes.proofs.Laws.{length-cipher}
 use Rattle.ccm.proofs.Splitting.{length-masked}
 use Rattle.ccm.proofs.Laws.{limits-hold}

@@ -5,7 +5,7 @@ use native.Mathlib.Omega.{arith}
 use lib.ListN.{length}
 use lib.ListN.{length-set}
 use borrow.Author.Needs.{needs}
-use Rattle.ccm.proofs.Strings.{laid, lay, laid-all}
+use Rattle.octets.proofs.Lists.{laid, lay, laid-all}
 use Rattle.ccm.proofs.blocks.copy.Statement.{statement}
 use Rattle.ccm.proofs.blocks.copy.Tie as tie
 

@@ -4,8 +4,9 @@ use Prim.Native.Nat.{ℕ, _≤_, _-_, zero-le}
 use native.Mathlib.Omega.{arith}
 use lib.ListN.{length}
 use borrow.Author.Needs.{needs}
+use Rattle.octets.proofs.Lists.{laid}
 use Rattle.ccm.specs.Blocks.{xors, padded}
-use Rattle.ccm.proofs.Strings.{laid, xor-turn, xor-end}
+use Rattle.ccm.proofs.Strings.{xor-turn, xor-end}
 use Rattle.ccm.proofs.blocks.xor.Statement.{statement}
 use Rattle.ccm.proofs.blocks.xor.Tie as tie
 

@@ -3,7 +3,7 @@ use mathlib.Core.Path.{ap, _∙_}
 use mathlib.Core.List.{List}
 use Prim.Native.Nat.{ℕ}
 use borrow.Author.Needs.{needs}
-use Rattle.ccm.specs.Ccm.{same}
+use Rattle.octets.specs.Octets.{same}
 use Rattle.ccm.proofs.code.verified.Statement.{statement}
 use Rattle.ccm.proofs.code.verified.Tie as tie
 
