@@ -12,17 +12,17 @@ use Rattle.octets.specs.Octets.{same}
 use Rattle.octets.specs.Options.{when}
 use Rattle.ccm.specs.Blocks.{BlockCipher}
 use Rattle.ccm.specs.Ccm.{masked, U, inLimits, sealed, opened}
-use Rattle.ccm.specs.Room.{fitting, outcome, written}
+use Rattle.ccm.specs.Room.{fitting, outcome, written, Answered}
 use Rattle.ccm.specs.declared.Outcome.{Outcome}
 use Rattle.ccm.specs.declared.Outcome.the-variants.{Done, Refused}
 use Rattle.ccm.proofs.Splitting.{length-masked}
 use Rattle.ccm.proofs.Laws.{length-both}
 
 module _ (o : Option (List ℕ)) (room : List ℕ) where
-  pub refused : o ≡ none → (Refused ≡ outcome o) × (room ≡ written room o)
+  refused : fitting room o ≡ none → Answered o room Refused room
   refused e = (ap outcome (sym e), ap (written room) (sym e))
 
-  pub done : (t after : List ℕ) (n : ℕ) → o ≡ some t → n ≡ length t → after ≡ t ++ drop n room → (Done n ≡ outcome o) × (after ≡ written room o)
+  done : (t after : List ℕ) (n : ℕ) → fitting room o ≡ some t → n ≡ length t → after ≡ t ++ drop n room → Answered o room (Done n) after
   done t after n e l is = (ap Done l ∙ ap outcome (sym e), is ∙ ap (λ (k : ℕ). t ++ drop k room) l ∙ ap (written room) (sym e))
 
 less-none : (n : ℕ) → n - 0 ≡ n
@@ -43,38 +43,44 @@ put-both room ys zs n k ly =
 
 module _ (E : List ℕ → List ℕ) (hE : BlockCipher E) (M : ℕ) (hM : M ≤ 16) (N a room : List ℕ) where
   module _ (m : List ℕ) where
-    pub seal-limits : inLimits (length a) (length m) ≡ false → fitting room (sealed E M N a m) ≡ none
+    pub seal-limits : inLimits (length a) (length m) ≡ false → Answered (sealed E M N a m) room Refused room
     unfolding sealed
-    seal-limits h = rw h
+    seal-limits h = refused (sealed E M N a m) room (rw h)
 
-    pub seal-small : length room < length m + M → fitting room (sealed E M N a m) ≡ none
+    pub seal-small : length room < length m + M → Answered (sealed E M N a m) room Refused room
     unfolding sealed
-    seal-small h = small (inLimits (length a) (length m)) (masked E N 1 m ++ U E M N a m) room (omega (arith, length-both E hE M hM N a m))
+    seal-small h =
+        refused (sealed E M N a m) room
+        (small (inLimits (length a) (length m)) (masked E N 1 m ++ U E M N a m) room (omega (arith, length-both E hE M hM N a m)))
 
     pub seal-done : inLimits (length a) (length m) ≡ true → length m + M ≤ length room
-        → fitting room (sealed E M N a m) ≡ some (masked E N 1 m ++ U E M N a m)
+        → (after : List ℕ) → after ≡ (masked E N 1 m ++ U E M N a m) ++ drop (length m + M) room → Answered (sealed E M N a m) room (Done (length m + M)) after
     unfolding sealed
-    seal-done h k = rw (h, le-leb (length (masked E N 1 m ++ U E M N a m)) (length room) (omega (arith, length-both E hE M hM N a m)))
+    seal-done h k after is =
+        let t = masked E N 1 m ++ U E M N a m in
+        let size = length-both E hE M hM N a m in
+        done (sealed E M N a m) room t after (length m + M) (rw (h, le-leb (length t) (length room) (omega arith))) (sym size) is
 
   module _ (t : List ℕ) where
-    pub open-short : length t < M → fitting room (opened E M N a t) ≡ none
+    pub open-short : length t < M → Answered (opened E M N a t) room Refused room
     unfolding opened
-    open-short h = rw (lt-leb M (length t) h)
+    open-short h = refused (opened E M N a t) room (rw (lt-leb M (length t) h))
 
     module _ (long : M ≤ length t) where
-      pub open-limits : inLimits (length a) (length t - M) ≡ false → fitting room (opened E M N a t) ≡ none
+      pub open-limits : inLimits (length a) (length t - M) ≡ false → Answered (opened E M N a t) room Refused room
       unfolding opened
-      open-limits h = rw (le-leb M (length t) long, h)
+      open-limits h = refused (opened E M N a t) room (rw (le-leb M (length t) long, h))
 
       pub length-opened : length (masked E N 1 (take (length t - M) t)) ≡ length t - M
       length-opened = length-masked E hE N 1 (take (length t - M) t) ∙ omega (arith, length-take (length t - M) t)
 
       module _ (limits : inLimits (length a) (length t - M) ≡ true) where
-        pub open-small : length room < length t - M → fitting room (opened E M N a t) ≡ none
+        pub open-small : length room < length t - M → Answered (opened E M N a t) room Refused room
         unfolding opened
         open-small k =
             let m = masked E N 1 (take (length t - M) t) in
-            rw (le-leb M (length t) long, limits) (small (same (U E M N a m) (drop (length t - M) t)) m room (omega (arith, length-opened)))
+            refused (opened E M N a t) room
+            (rw (le-leb M (length t) long, limits) (small (same (U E M N a m) (drop (length t - M) t)) m room (omega (arith, length-opened))))
 
         -- the codes compared and the message ys written as the code does it
         module _ (r : Bool) (is : r ≡ same (U E M N a (masked E N 1 (take (length t - M - 0) t))) (take (length t - (length t - M)) (drop (length t - M) t))) where
@@ -83,12 +89,9 @@ module _ (E : List ℕ → List ℕ) (hE : BlockCipher E) (M : ℕ) (hM : M ≤ 
               is ∙ ap₂ (λ (k : ℕ) (l : List ℕ). same (U E M N a (masked E N 1 (take k t))) l) (less-none (length t - M))
               (take-all (length t - (length t - M)) (drop (length t - M) t) (omega (arith, length-drop (length t - M) t)))
 
-          wrong : r ≡ false → fitting room (opened E M N a t) ≡ none
+          pub open-wrong : r ≡ false → Answered (opened E M N a t) room Refused room
           unfolding opened
-          wrong w = rw (le-leb M (length t) long, limits, sym compared ∙ w)
-
-          pub open-wrong : r ≡ false → (Refused ≡ outcome (fitting room (opened E M N a t))) × (room ≡ written room (fitting room (opened E M N a t)))
-          open-wrong w = refused (fitting room (opened E M N a t)) room (wrong w)
+          open-wrong w = refused (opened E M N a t) room (rw (le-leb M (length t) long, limits, sym compared ∙ w))
 
           right : length t - M ≤ length room → r ≡ true → fitting room (opened E M N a t) ≡ some (masked E N 1 (take (length t - M) t))
           unfolding opened
@@ -97,16 +100,13 @@ module _ (E : List ℕ → List ℕ) (hE : BlockCipher E) (M : ℕ) (hM : M ≤ 
               rw (le-leb M (length t) long, limits, sym compared ∙ w, le-leb (length m) (length room) (omega (arith, length-opened)))
 
           pub open-right : length t - M ≤ length room → r ≡ true → (ys : List ℕ) → ys ≡ masked E N 1 (take (length t - M - 0) t)
-              → (Done (length t - M) ≡ outcome (fitting room (opened E M N a t))) × (ys ++ drop (length t - M - 0) room ≡ written room (fitting room (opened E M N a t)))
+              → Answered (opened E M N a t) room (Done (length t - M)) (ys ++ drop (length t - M - 0) room)
           open-right k w ys e =
               let e₀ = less-none (length t - M) in
-              done (fitting room (opened E M N a t)) room (masked E N 1 (take (length t - M) t)) (ys ++ drop (length t - M - 0) room) (length t - M) (right k w) (sym length-opened)
+              done (opened E M N a t) room (masked E N 1 (take (length t - M) t)) (ys ++ drop (length t - M - 0) room) (length t - M) (right k w) (sym length-opened)
               (ap₂ (λ (l : List ℕ) (j : ℕ). l ++ drop j room) (e ∙ ap (λ (j : ℕ). masked E N 1 (take j t)) e₀) e₀)
 
 -- what holds with the cipher F that the code has holds with E
 pub by-cipher : (F E : List ℕ → List ℕ) → F ≡ E → (M : ℕ) (N a room t : List ℕ) (r : Outcome) (after : List ℕ)
-    → (r ≡ outcome (fitting room (opened F M N a t))) × (after ≡ written room (fitting room (opened F M N a t)))
-    → (r ≡ outcome (fitting room (opened E M N a t))) × (after ≡ written room (fitting room (opened E M N a t)))
-by-cipher F E e M N a room t r after h =
-    let o = ap (λ (G : List ℕ → List ℕ). fitting room (opened G M N a t)) e in
-    (h .0 ∙ ap outcome o, h .1 ∙ ap (written room) o)
+    → Answered (opened F M N a t) room r after → Answered (opened E M N a t) room r after
+by-cipher F E e M N a room t r after h = rw e at h

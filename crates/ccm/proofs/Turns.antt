@@ -20,7 +20,7 @@ module _ (s : List ℕ) (at end : ℕ) (h : at < length s) (e : end ≡ min (at 
       (λ gt. let k : end - at ≡ 16 = omega arith in ap (λ (n : ℕ). take n (drop at s)) k)
       (le-or-lt (length s) (at + 16))
 
-  pub length-block : length (take (end - at) (drop at s)) ≡ end - at
+  length-block : length (take (end - at) (drop at s)) ≡ end - at
   length-block = omega (arith, length-take (end - at) (drop at s), length-drop at s)
 
   -- as many octets of a block as there is room for in out
@@ -69,13 +69,19 @@ module _ (E : List ℕ → List ℕ) (s : List ℕ) (at : ℕ) where
 
   module _ (hE : BlockCipher E) (N : List ℕ) where
     -- what `mask_block` makes of a block, less its padding
-    pub mask-is : (p b : List ℕ) (n : ℕ) → p ≡ take 16 (drop at s) → n ≡ length p → b ≡ xors (S E N (at / 16 + 1)) (padded p)
+    mask-is : (p b : List ℕ) (n : ℕ) → p ≡ take 16 (drop at s) → n ≡ length p → b ≡ xors (S E N (at / 16 + 1)) (padded p)
         → take n b ≡ xors (take 16 (drop at s)) (S E N (at / 16 + 1))
     unfolding padded
     mask-is p b n ip e is =
         let k = S E N (at / 16 + 1) in
         let short : length p ≤ length k = omega (arith, ap length ip, length-take 16 (drop at s), length-S E hE N (at / 16 + 1)) in
         ap₂ take e is ∙ xors-flip k p (replicate (16 - length p) 0) short ∙ ap (λ (l : List ℕ). xors l k) ip
+
+    -- the block from `at` to its end, masked
+    pub block-masked : (end : ℕ) → at < length s → end ≡ min (at + 16) (length s) → (b : List ℕ)
+        → b ≡ xors (S E N (at / 16 + 1)) (padded (take (end - at) (drop at s))) → take (end - at - 0) b ≡ xors (take 16 (drop at s)) (S E N (at / 16 + 1))
+    block-masked end h e b is =
+        mask-is (take (end - at) (drop at s)) b (end - at - 0) (block-is s at end h e) (omega (arith, length-block s at end h e)) is
 
     next : (at + 16) / 16 + 1 ≡ suc (at / 16 + 1)
     next = omega arith

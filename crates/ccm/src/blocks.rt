@@ -1,13 +1,13 @@
 // Blocks of 16 octets.
 ghost use mathlib.Core.Path.{_≡_};
-ghost use Prim.Native.Nat.{_+_, _≤_, _<_, min};
+ghost use Prim.Native.Nat.{_+_, _≤_, min};
 ghost use lib.ListN.{length};
-ghost use Rattle.ccm.specs.Blocks.{xors, padded};
+ghost use Rattle.ccm.specs.Blocks.{xors, mostTwoOctets, padded};
 ghost use Rattle.ccm.specs.Ccm.{formatted};
 
 // B_0 or A_i: flags, nonce and a number, the most significant octet first.
 pub(crate) fn formatted(flags: u8, nonce: [u8; 13], n: usize) -> [u8; 16]
-    requires { ⌜ n < 65536 ⌝ }
+    requires { ⌜ n ≤ mostTwoOctets ⌝ }
     ensures { λ r. ⌜ r ≡ formatted flags nonce n ⌝ }
 {
     [
@@ -42,17 +42,6 @@ pub(crate) fn xor(x: [u8; 16], s: &[u8]) -> [u8; 16]
         i += 1;
     }
     r
-}
-
-pub(crate) fn copy(src: &[u8], dst: &mut [u8])
-    requires { ⌜ length (now dst) ≡ length (now src) ⌝ }
-    ensures { λ _. ⌜ now (dst .exit) ≡ now (src .entry) ⌝ }
-{
-    let mut i: usize = 0;
-    while i < src.len() {
-        dst[i] = src[i];
-        i += 1;
-    }
 }
 
 // The end of the block that starts at `at` in a string of n octets.

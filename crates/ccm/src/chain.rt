@@ -1,12 +1,13 @@
 // RFC 3610, section 2.2: the chain that a code is made of.
 use crate::blocks::block_end;
-use crate::blocks::copy;
 use crate::blocks::formatted;
 use crate::blocks::xor;
+use crate::limits::MOST_DATA;
 ghost use mathlib.Core.Path.{_≡_};
-ghost use Prim.Native.Nat.{_+_, _≤_, _<_};
+ghost use Prim.Native.Nat.{_+_, _≤_};
 ghost use lib.ListN.{length, take};
 ghost use Rattle.aes.specs.Cipher.{cipher};
+ghost use Rattle.ccm.specs.Limits.{mostData, mostMessage, codeOctets};
 ghost use Rattle.ccm.specs.Blocks.{blocks};
 ghost use Rattle.ccm.specs.Ccm.{B₀, coded, chain};
 
@@ -25,23 +26,23 @@ pub(crate) fn absorb(w: &[u8; 176], x: [u8; 16], s: &[u8]) -> [u8; 16]
 }
 
 // The authenticated data after its length, with room for the most.
-fn coded(aad: &[u8]) -> [u8; 66]
-    requires { ⌜ length (now aad) ≤ 64 ⌝ }
+fn coded(aad: &[u8]) -> [u8; MOST_DATA + 2]
+    requires { ⌜ length (now aad) ≤ mostData ⌝ }
     ensures { λ r. ⌜ take (length (now (aad .entry)) + 2) r ≡ coded (now (aad .entry)) ⌝ }
 {
     let n = aad.len();
-    let mut out = [0u8; 66];
+    let mut out = [0u8; MOST_DATA + 2];
     out[0] = (n / 256) as u8;
     out[1] = (n % 256) as u8;
-    copy(aad, &mut out[2..n + 2]);
+    bytes::copy(aad, &mut out[2..n + 2]);
     out
 }
 
 // X after B_0, for a message of n octets, and the blocks of the authenticated data.
 pub(crate) fn begin(w: &[u8; 176], nonce: [u8; 13], aad: &[u8], n: usize) -> [u8; 16]
-    requires { ⌜ (length (now aad) ≤ 64) × (n < 65536) ⌝ }
+    requires { ⌜ (length (now aad) ≤ mostData) × (n ≤ mostMessage) ⌝ }
     ensures { λ r. ⌜
-        r ≡ chain (cipher 10 (now (w .entry))) (cipher 10 (now (w .entry)) (B₀ 8 nonce n)) (blocks (coded (now (aad .entry)))) ⌝ }
+        r ≡ chain (cipher 10 (now (w .entry))) (cipher 10 (now (w .entry)) (B₀ codeOctets nonce n)) (blocks (coded (now (aad .entry)))) ⌝ }
 {
     let first = aes::encrypt(w, formatted(0x59, nonce, n));
     let data = coded(aad);

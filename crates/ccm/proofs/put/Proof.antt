@@ -3,10 +3,12 @@ use mathlib.Core.Path.{_≡_, ap, ap₂, _∙_}
 use mathlib.Core.List.{List, _++_}
 use Prim.Native.Nat.{ℕ, _-_, _+_}
 use native.Mathlib.Omega.{arith}
-use lib.ListN.{length, take, drop}
+use lib.ListN.{length, take, drop, length-take}
 use borrow.Author.Needs.{needs}
+use Rattle.octets.proofs.Lists.{laid-all}
 use Rattle.aes.specs.Cipher.{cipher}
 use Rattle.aes.proofs.Laws.{length-cipher}
+use Rattle.ccm.specs.Limits.{codeOctets}
 use Rattle.ccm.proofs.Splitting.{length-masked}
 use Rattle.ccm.proofs.Answers.{put-both}
 use Rattle.ccm.proofs.put.Statement.{statement}
@@ -14,22 +16,23 @@ use Rattle.ccm.proofs.put.Tie as tie
 
 returns : tie.Need-returns
 returns c =
-    let c₃ = c .before .before in
-    let c₂ = c₃ .before .before .before .before .before .before in
-    let c₁ = c₂ .before .before in
-    let a = c₁ .before .before .before .before .args in
+    let copied = c .before .before in
+    let lent = copied .before .before .before in
+    let made = lent .before .before .before in
+    let coded = made .before .before in
+    let a = coded .before .before .before .before .args in
     let E = cipher 10 (a .w .now) in
     let out = a .out .now in
     let m = a .body .now in
     let n = length m in
-    let ys = c₂ .mask .last .1 .1 .1 .0 in
-    let zs = c₃ .copy .last .1 .0 in
-    let ly : length ys ≡ n = ap length (c₂ .mask .ensures) ∙ length-masked E (length-cipher 10 (a .w .now)) (a .nonce) 1 m in
+    let ys = made .mask .last .1 .1 .1 .0 in
+    let zs = copied .copy .last .1 .0 in
+    let ly : length ys ≡ n = ap length (made .mask .ensures) ∙ length-masked E (length-cipher 10 (a .w .now)) (a .nonce) 1 m in
     let e₀ : n - 0 ≡ n = omega arith in
-    let e₈ : n + 8 - n ≡ 8 = omega arith in
-    ap₂ (λ (j k : ℕ). take n (ys ++ drop j out) ++ (zs ++ drop k (drop n (ys ++ drop j out)))) e₀ e₈
-    ∙ put-both out ys zs n 8 ly
-    ∙ ap₂ (λ (p q : List ℕ). (p ++ q) ++ drop (n + 8) out) (c₂ .mask .ensures) (c₃ .copy .ensures ∙ c₁ .code-of .ensures)
+    let eₘ : n + codeOctets - n ≡ codeOctets = omega arith in
+    ap₂ (λ (j k : ℕ). take n (ys ++ drop j out) ++ (zs ++ drop k (drop n (ys ++ drop j out)))) e₀ eₘ
+    ∙ put-both out ys zs n codeOctets ly
+    ∙ ap₂ (λ (p q : List ℕ). (p ++ q) ++ drop (n + codeOctets) out) (made .mask .ensures) (copied .copy .ensures .1 ∙ laid-all _ _ (simp length-take (omega arith)) ∙ coded .code-of .ensures)
 
 pub put-spec : {M : Type 1} → statement M
 put-spec =

@@ -8,23 +8,26 @@ use borrow.Author.Tests.{not-true, not-false}
 use borrow.Author.Needs.{needs}
 use Rattle.aes.specs.Cipher.{cipher}
 use Rattle.aes.specs.KeyExpansion.{aes128}
+use Rattle.ccm.specs.Limits.{codeOctets}
 use Rattle.ccm.specs.Ccm.{masked, U}
 use Rattle.aes.proofs.Laws.{aes128-is, length-aes128}
-use Rattle.ccm.proofs.Laws.{in-limits, length-both}
-use Rattle.ccm.proofs.Answers.{refused, done, seal-limits, seal-small, seal-done}
+use Rattle.ccm.proofs.Laws.{in-limits}
+use Rattle.ccm.proofs.Answers.{seal-limits, seal-small, seal-done}
 use Rattle.ccm.proofs.seal.Statement.{statement}
 use Rattle.ccm.proofs.seal.Tie as tie
 
 returns : tie.Need-returns
 returns c =
-    let c₁ = c .before in
-    let a = c₁ .before .before .before .before .args in
-    refused _ (a .out .now) (seal-limits (aes128 (a .key)) (length-aes128 (a .key)) 8 (lit≤ tt) (a .nonce) (a .aad .now) (a .out .now) (a .body .now) (sym (c₁ .in-limits .ensures) ∙ not-true _ (c .if1 .taken)))
+    let asked = c .before in
+    let a = asked .before .before .before .before .args in
+    seal-limits (aes128 (a .key)) (length-aes128 (a .key)) codeOctets (lit≤ tt) (a .nonce) (a .aad .now) (a .out .now) (a .body .now)
+    (sym (asked .in-limits .ensures) ∙ not-true _ (c .if1 .taken))
 
 returns-2 : tie.Need-returns-2
 returns-2 c =
-    let a = c .before .before .before .before .before .before .args in
-    refused _ (a .out .now) (seal-small (aes128 (a .key)) (length-aes128 (a .key)) 8 (lit≤ tt) (a .nonce) (a .aad .now) (a .out .now) (a .body .now) (c .if2 .taken))
+    let asked = c .before .before in
+    let a = asked .before .before .before .before .args in
+    seal-small (aes128 (a .key)) (length-aes128 (a .key)) codeOctets (lit≤ tt) (a .nonce) (a .aad .now) (a .out .now) (a .body .now) (c .if2 .taken)
 
 put-requires : tie.Need-put-requires
 put-requires c κs =
@@ -35,23 +38,20 @@ put-requires c κs =
 
 returns-3 : tie.Need-returns-3
 returns-3 c =
-    let c₅ = c .before .before in
-    let c₄ = c₅ .before .before .before in
-    let c₃ = c₄ .before in
-    let c₂ = c₃ .before in
-    let c₁ = c₂ .before in
-    let a = c₁ .before .before .before .before .args in
-    let E = aes128 (a .key) in
-    let hE = length-aes128 (a .key) in
+    let written = c .before .before in
+    let made = written .before .before .before in
+    let fits = made .before in
+    let limited = fits .before in
+    let asked = limited .before in
+    let a = asked .before .before .before .before .args in
     let N = a .nonce in
     let A = a .aad .now in
     let m = a .body .now in
     let out = a .out .now in
-    let t = masked E N 1 m ++ U E 8 N A m in
-    let limits = sym (c₁ .in-limits .ensures) ∙ not-false _ (c₂ .if1 .left) in
-    let cipher-is = ap (cipher 10) (c₄ .expand .ensures) ∙ sym (aes128-is (a .key)) in
-    done _ out t _ (length m + 8) (seal-done E hE 8 (lit≤ tt) N A out m limits (c₃ .if2 .left)) (sym (length-both E hE 8 (lit≤ tt) N A m))
-    (c₅ .put .ensures ∙ ap (λ (F : List ℕ → List ℕ). (masked F N 1 m ++ U F 8 N A m) ++ drop (length m + 8) out) cipher-is)
+    let cipher-is = ap (cipher 10) (made .expand .ensures) ∙ sym (aes128-is (a .key)) in
+    seal-done (aes128 (a .key)) (length-aes128 (a .key)) codeOctets (lit≤ tt) N A out m
+    (sym (asked .in-limits .ensures) ∙ not-false _ (limited .if1 .left)) (fits .if2 .left) _
+    (written .put .ensures ∙ ap (λ (F : List ℕ → List ℕ). (masked F N 1 m ++ U F codeOctets N A m) ++ drop (length m + codeOctets) out) cipher-is)
 
 pub seal-spec : {M : Type 1} → statement M
 seal-spec =

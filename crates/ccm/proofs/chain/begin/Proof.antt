@@ -1,4 +1,4 @@
--- The flags 0x59 are those of M = 8, and the chain goes on from B_0 through the coded data.
+-- The flags 0x59 are those of a code of `codeOctets`, and the chain goes on from B_0 through the coded data.
 use mathlib.Core.Path.{_≡_, ap, ap₂, _∙_}
 use mathlib.Core.List.{List}
 use Prim.Native.Nat.{ℕ, _-_, _+_}

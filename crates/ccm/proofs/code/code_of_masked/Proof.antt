@@ -2,6 +2,7 @@
 use mathlib.Core.Path.{sym}
 use borrow.Author.Needs.{needs}
 use Rattle.aes.specs.Cipher.{cipher}
+use Rattle.ccm.specs.Limits.{codeOctets}
 use Rattle.ccm.specs.Ccm.{masked}
 use Rattle.aes.proofs.Laws.{length-cipher}
 use Rattle.ccm.proofs.Splitting.{length-masked}
@@ -15,7 +16,7 @@ returns c =
     let c₁ = c₂ .before in
     let a = c₁ .before .before .before .args in
     let hE = length-cipher 10 (a .w .now) in
-    code-is (cipher 10 (a .w .now)) hE 8 (a .nonce) (a .aad .now) (masked (cipher 10 (a .w .now)) (a .nonce) 1 (a .text .now)) _ _ _ _ (sym (length-masked (cipher 10 (a .w .now)) hE (a .nonce) 1 (a .text .now))) (c₁ .begin .ensures) (c₂ .absorb-masked .ensures) (c .mask-block .ensures)
+    code-is (cipher 10 (a .w .now)) hE codeOctets (a .nonce) (a .aad .now) (masked (cipher 10 (a .w .now)) (a .nonce) 1 (a .text .now)) _ _ _ _ (sym (length-masked (cipher 10 (a .w .now)) hE (a .nonce) 1 (a .text .now))) (c₁ .begin .ensures) (c₂ .absorb-masked .ensures) (c .mask-block .ensures)
 
 pub code-of-masked-spec : {M : Type 1} → statement M
 code-of-masked-spec =

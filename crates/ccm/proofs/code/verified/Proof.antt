@@ -1,4 +1,4 @@
--- The first 8 octets of what `code_of_masked` gives are the code.
+-- The front of what `code_of_masked` gives is the code.
 use mathlib.Core.Path.{ap, _∙_}
 use mathlib.Core.List.{List}
 use Prim.Native.Nat.{ℕ}

@@ -5,15 +5,16 @@ use native.Mathlib.Omega.{arith}
 use lib.ListN.{length, drop, length-take, length-drop}
 use borrow.Author.Needs.{needs}
 use Rattle.aes.specs.Cipher.{cipher}
+use Rattle.ccm.specs.Limits.{mostMessage}
 use Rattle.ccm.specs.Blocks.{blocks}
 use Rattle.ccm.specs.Ccm.{chain, masked}
 use Rattle.aes.proofs.Laws.{length-cipher}
-use Rattle.ccm.proofs.Turns.{block-is, length-block, mask-is, absorbs-masked, absorbed-masked}
+use Rattle.ccm.proofs.Turns.{block-masked, absorbs-masked, absorbed-masked}
 use Rattle.ccm.proofs.stream.absorb_masked.Statement.{statement}
 use Rattle.ccm.proofs.stream.absorb_masked.Tie as tie
 
 abbrev Inv-loop : tie.InvT-loop
-Inv-loop w nonce s y₀ at₀ y at = (length y ≡ 16) × (length s ≤ 65535) × (chain (cipher 10 w) y₀ (blocks (masked (cipher 10 w) nonce 1 s)) ≡ chain (cipher 10 w) y (blocks (masked (cipher 10 w) nonce (at / 16 + 1) (drop at s))))
+Inv-loop w nonce s y₀ at₀ y at = (length y ≡ 16) × (length s ≤ mostMessage) × (chain (cipher 10 w) y₀ (blocks (masked (cipher 10 w) nonce 1 s)) ≡ chain (cipher 10 w) y (blocks (masked (cipher 10 w) nonce (at / 16 + 1) (drop at s))))
 
 abbrev μ-loop : tie.MeasureT-loop
 μ-loop w nonce s y₀ at₀ y at = length s - at
@@ -29,19 +30,17 @@ xor-requires c κs = simp (length-take, length-drop) (omega arith)
 
 loop-again : tie.Need-loop-again Inv-loop μ-loop
 loop-again c =
-    let c₁ = c .before in
-    let c₃ = c₁ .before .before .before in
-    let c₅ = c₃ .before .before in
-    let l = c₅ .before .before .loop in
-    let a = c₅ .before .before .before .before .args in
-    let s = a .s .now in
-    let h = c₅ .before .loop-test .taken in
-    let end = c₅ .block-end .result in
-    let e = c₅ .block-end .ensures in
+    let added = c .before in
+    let made = added .before .before .before in
+    let found = made .before .before in
+    let top = found .before .before in
+    let l = top .loop in
+    let a = top .before .before .args in
     let E = cipher 10 (a .w .now) in
     let hE = length-cipher 10 (a .w .now) in
-    let q = mask-is E s (l .at) hE (a .nonce) _ _ (end - l .at - 0) (block-is s (l .at) end h e) (omega (arith, length-block s (l .at) end h e)) (c₃ .mask-block .ensures) in
-    (search needs, l .inv .1, l .inv .2 ∙ absorbs-masked E s (l .at) hE (a .nonce) (l .y) _ _ h q (c .encrypt .ensures ∙ ap E (c₁ .xor .ensures)))
+    let h = found .before .loop-test .taken in
+    let q = block-masked E (a .s .now) (l .at) hE (a .nonce) _ h (found .block-end .ensures) _ (made .mask-block .ensures) in
+    (search needs, l .inv .1, l .inv .2 ∙ absorbs-masked E (a .s .now) (l .at) hE (a .nonce) (l .y) _ _ h q (c .encrypt .ensures ∙ ap E (added .xor .ensures)))
 
 returns : tie.Need-returns Inv-loop μ-loop
 returns c =

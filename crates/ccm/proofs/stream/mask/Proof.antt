@@ -5,15 +5,17 @@ use Prim.Native.Nat.{_≤_, _-_, _+_, _/_}
 use native.Mathlib.Omega.{arith}
 use lib.ListN.{length, take, drop, length-take, length-drop}
 use borrow.Author.Needs.{needs}
+use Rattle.octets.proofs.Lists.{laid-all}
 use Rattle.aes.specs.Cipher.{cipher}
+use Rattle.ccm.specs.Limits.{mostMessage}
 use Rattle.ccm.specs.Ccm.{masked}
 use Rattle.aes.proofs.Laws.{length-cipher}
-use Rattle.ccm.proofs.Turns.{block-is, length-block, length-part, spliced, length-spliced, mask-is, masks, masks-end}
+use Rattle.ccm.proofs.Turns.{length-part, spliced, length-spliced, block-masked, masks, masks-end}
 use Rattle.ccm.proofs.stream.mask.Statement.{statement}
 use Rattle.ccm.proofs.stream.mask.Tie as tie
 
 abbrev Inv-loop : tie.InvT-loop
-Inv-loop w nonce s out₀ at₀ out at = (length out₀ ≡ length s) × (length out ≡ length s) × (length s ≤ 65535) × (take at out ++ masked (cipher 10 w) nonce (at / 16 + 1) (drop at s) ≡ masked (cipher 10 w) nonce 1 s)
+Inv-loop w nonce s out₀ at₀ out at = (length out₀ ≡ length s) × (length out ≡ length s) × (length s ≤ mostMessage) × (take at out ++ masked (cipher 10 w) nonce (at / 16 + 1) (drop at s) ≡ masked (cipher 10 w) nonce 1 s)
 
 abbrev μ-loop : tie.MeasureT-loop
 μ-loop w nonce s out₀ at₀ out at = length s - at
@@ -26,28 +28,31 @@ mask-block-requires c κs = (simp (length-take, length-drop) (omega arith), omeg
 
 copy-requires : tie.Need-copy-requires Inv-loop μ-loop
 copy-requires c κs =
-    let c₃ = c .before .before .before in
-    let c₅ = c₃ .before .before in
-    let l = c₅ .before .before .loop in
-    let a = c₅ .before .before .before .before .before .args in
-    length-part (a .s .now) (l .at) (c₅ .block-end .result) (c₅ .before .loop-test .taken) (c₅ .block-end .ensures) (c₃ .mask-block .result) (l .out) (search needs) (l .inv .1)
+    let made = c .before .before .before in
+    let found = made .before .before in
+    let top = found .before .before in
+    let l = top .loop in
+    let a = top .before .before .before .args in
+    omega (arith, length-part (a .s .now) (l .at) (found .block-end .result) (found .before .loop-test .taken) (found .block-end .ensures) (made .mask-block .result) (l .out) (search needs) (l .inv .1))
 
 loop-again : tie.Need-loop-again Inv-loop μ-loop
 loop-again c =
-    let c₁ = c .before .before in
-    let c₃ = c₁ .before .before .before .before in
-    let c₅ = c₃ .before .before in
-    let l = c₅ .before .before .loop in
-    let a = c₅ .before .before .before .before .before .args in
+    let copied = c .before .before in
+    let made = copied .before .before .before .before in
+    let found = made .before .before in
+    let top = found .before .before in
+    let l = top .loop in
+    let a = top .before .before .before .args in
     let s = a .s .now in
-    let h = c₅ .before .loop-test .taken in
-    let end = c₅ .block-end .result in
-    let e = c₅ .block-end .ensures in
+    let h = found .before .loop-test .taken in
+    let end = found .block-end .result in
+    let e = found .block-end .ensures in
     let E = cipher 10 (a .w .now) in
     let hE = length-cipher 10 (a .w .now) in
-    let ys = c₁ .copy .last .1 .0 in
-    let ly : length ys ≡ end - l .at = c₁ .copy .kept .1 .0 ∙ simp (length-take, length-drop) (omega arith) in
-    let q = c₁ .copy .ensures ∙ mask-is E s (l .at) hE (a .nonce) _ _ (end - l .at - 0) (block-is s (l .at) end h e) (omega (arith, length-block s (l .at) end h e)) (c₃ .mask-block .ensures) in (
+    let ys = copied .copy .last .1 .0 in
+    let ly : length ys ≡ end - l .at = copied .copy .kept .1 .0 ∙ simp (length-take, length-drop) (omega arith) in
+    let sizes = length-part s (l .at) end h e (made .mask-block .result) (l .out) (search needs) (l .inv .1) in
+    let q = copied .copy .ensures .1 ∙ laid-all _ _ (omega arith) ∙ block-masked E s (l .at) hE (a .nonce) end h e _ (made .mask-block .ensures) in (
       l .inv .0,
       length-spliced s (l .at) end h e (l .out) ys (l .inv .1) ly,
       l .inv .2,
