@@ -1,29 +1,15 @@
 // FIPS 197's vectors for AES-128. What this must print, the file stdout, was taken from the standard:
 // the key schedule from the last column of appendix A.1, and the ciphertexts from the ends of
 // appendices B and C.1.
-use libc::STDOUT_FILENO;
-
-fn print_octet(x: u8) {
-    io::print_hex(STDOUT_FILENO, x as u64, 2);
-}
-
-fn print_octets(octets: &[u8]) {
-    let mut i: usize = 0;
-    while i < octets.len() {
-        print_octet(octets[i]);
-        i += 1;
-    }
-}
-
 fn print_schedule(w: [u8; 176]) {
     let octets: &[u8] = &w;
     let mut i: usize = 0;
     while i < 44 {
-        io::write_all(STDOUT_FILENO, b"A.1 w[");
-        io::print_decimal(STDOUT_FILENO, i as u64);
-        io::write_all(STDOUT_FILENO, b"] ");
-        print_octets(&octets[4 * i..4 * i + 4]);
-        io::write_all(STDOUT_FILENO, b"\n");
+        show::text(b"A.1 w[");
+        show::number(i as u64);
+        show::text(b"] ");
+        show::octets(&octets[4 * i..4 * i + 4]);
+        show::text(b"\n");
         i += 1;
     }
 }
@@ -31,9 +17,9 @@ fn print_schedule(w: [u8; 176]) {
 fn print_ciphertext(appendix: &[u8], key: [u8; 16], plaintext: [u8; 16]) {
     let w = aes::expand(key);
     let ciphertext = aes::encrypt(&w, plaintext);
-    io::write_all(STDOUT_FILENO, appendix);
-    print_octets(&ciphertext);
-    io::write_all(STDOUT_FILENO, b"\n");
+    show::text(appendix);
+    show::octets(&ciphertext);
+    show::text(b"\n");
 }
 
 fn main() {

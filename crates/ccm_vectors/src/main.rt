@@ -3,52 +3,32 @@
 // "opened" what its input has there. Each text is opened as it is, and with one bit turned over in the
 // text, in the authenticated data and in the nonce.
 use ccm::Outcome;
-use libc::STDOUT_FILENO;
 ghost use Prim.Native.Nat.{_≤_};
 ghost use lib.ListN.{length};
 
-fn print_octet(x: u8) {
-    io::print_hex(STDOUT_FILENO, x as u64, 2);
-}
-
-fn print_octets(octets: &[u8]) {
-    let mut i: usize = 0;
-    while i < octets.len() {
-        print_octet(octets[i]);
-        i += 1;
-    }
-}
-
 fn print_label(number: u64, label: &[u8]) {
-    io::print_decimal(STDOUT_FILENO, number);
-    io::write_all(STDOUT_FILENO, label);
-}
-
-fn all_are(octets: &[u8], x: u8) -> bool {
-    let mut i: usize = 0;
-    while i < octets.len() {
-        if octets[i] != x {
-            return false;
-        }
-        i += 1;
-    }
-    true
+    show::number(number);
+    show::text(label);
 }
 
 fn print_outcome(o: Outcome, out: &[u8]) {
     match o {
         Outcome::Done(n) => {
             if n <= out.len() {
-                print_octets(&out[0..n]);
+                show::octets(&out[0..n]);
             }
         }
         Outcome::Refused => {
-            if all_are(out, 0xaa) {
-                io::write_all(STDOUT_FILENO, b"refused, nothing written");
+            let before = [0xaau8; 41];
+            let n = out.len();
+            if n <= 41 {
+                if octets::equal(out, &before[0..n]) {
+                    show::text(b"refused, nothing written");
+                }
             }
         }
     }
-    io::write_all(STDOUT_FILENO, b"\n");
+    show::text(b"\n");
 }
 
 // Opens the first `end` octets of text with the first `header` of aad.

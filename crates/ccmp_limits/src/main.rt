@@ -1,6 +1,5 @@
 // The limit cases of the frame rules: sizes, room, numbers, replays, records, and the order of the tests.
 // What this must print, the file stdout, was taken from document 01; ` | 01: ` is the answer that it gives, 0 for done.
-use libc::STDOUT_FILENO;
 use rules::Answer;
 use rules::Counts;
 use rules::Receiver;
@@ -11,25 +10,6 @@ ghost use Prim.Native.Nat.{_≤_, _<_};
 const MOST: u64 = 281474976710655;
 
 const MOST_COUNT: u32 = 4294967295;
-
-fn say(text: &[u8]) {
-    io::write_all(STDOUT_FILENO, text);
-}
-
-fn number(n: u64) {
-    io::print_decimal(STDOUT_FILENO, n);
-}
-
-fn all_are(octets: &[u8], x: u8) -> bool {
-    let mut i: usize = 0;
-    while i < octets.len() {
-        if octets[i] != x {
-            return false;
-        }
-        i += 1;
-    }
-    true
-}
 
 fn zero_counters(replay: [u64; 16]) -> bool {
     let mut i: usize = 0;
@@ -42,46 +22,32 @@ fn zero_counters(replay: [u64; 16]) -> bool {
     true
 }
 
-// Whether the first n octets of two arrays are the same.
-fn same(a: [u8; 2400], b: [u8; 2400], n: usize) -> bool
-    requires { ⌜ n ≤ 2400 ⌝ }
-{
-    let mut i: usize = 0;
-    while i < n {
-        if a[i] != b[i] {
-            return false;
-        }
-        i += 1;
-    }
-    true
-}
-
 fn print_answer(a: Answer) {
     match a {
         Answer::Done(n, p, k) => {
-            say(b"done ");
-            number(n);
-            say(b" ");
-            number(p as u64);
-            say(b" ");
-            number(k as u64);
+            show::text(b"done ");
+            show::number(n);
+            show::text(b" ");
+            show::number(p as u64);
+            show::text(b" ");
+            show::number(k as u64);
         }
         Answer::Refused(x) => {
-            say(b"refused ");
-            number(x as u64);
+            show::text(b"refused ");
+            show::number(x as u64);
         }
     }
 }
 
 fn print_counts(c: Counts) {
-    say(b", counts ");
-    number(c.format_errors as u64);
-    say(b" ");
-    number(c.replays as u64);
-    say(b" ");
-    number(c.decrypt_errors as u64);
-    say(b" ");
-    number(c.opened as u64);
+    show::text(b", counts ");
+    show::number(c.format_errors as u64);
+    show::text(b" ");
+    show::number(c.replays as u64);
+    show::text(b" ");
+    show::number(c.decrypt_errors as u64);
+    show::text(b" ");
+    show::number(c.opened as u64);
 }
 
 // The octets that an answer says were written.
@@ -95,12 +61,13 @@ fn written(a: Answer) -> usize {
 // Whether the output is as it was from octet k on.
 fn print_rest(out: [u8; 2400], k: usize) {
     if k <= 2400 {
-        if all_are(&out[k..], 0xaa) {
-            say(b", rest kept");
+        let before = [0xaau8; 2400];
+        if octets::equal(&out[k..], &before[k..]) {
+            show::text(b", rest kept");
             return;
         }
     }
-    say(b", rest CHANGED");
+    show::text(b", rest CHANGED");
 }
 
 // Whether what was written is the original.
@@ -109,18 +76,18 @@ fn print_original(out: [u8; 2400], k: usize, original: [u8; 2400]) {
         return;
     }
     if k <= 2400 {
-        if same(out, original, k) {
-            say(b", original");
+        if octets::equal(&out[0..k], &original[0..k]) {
+            show::text(b", original");
             return;
         }
     }
-    say(b", NOT THE ORIGINAL");
+    show::text(b", NOT THE ORIGINAL");
 }
 
 fn print_expected(expected: u64) {
-    say(b" | 01: ");
-    number(expected);
-    say(b"\n");
+    show::text(b" | 01: ");
+    show::number(expected);
+    show::text(b"\n");
 }
 
 // Seals the first n octets of the frame with this room, and prints the rest of the line.
@@ -132,8 +99,8 @@ fn seals(s: Sender, frame: [u8; 2400], n: usize, room: usize, expected: u64) -> 
     let answer = sealed.answer;
     let next = sealed.sender;
     print_answer(answer);
-    say(b", last ");
-    number(next.last);
+    show::text(b", last ");
+    show::number(next.last);
     print_rest(out, written(answer));
     print_expected(expected);
     next
@@ -237,11 +204,11 @@ fn text_of(frame: [u8; 2400], n: usize, last: u64) -> [u8; 2400]
 fn seal_size(frame: [u8; 2400], h: usize, body: usize, expected: u64)
     requires { ⌜ (h ≤ 32) × (body ≤ 2297) ⌝ }
 {
-    say(b"header ");
-    number(h as u64);
-    say(b", seal body ");
-    number(body as u64);
-    say(b": ");
+    show::text(b"header ");
+    show::number(h as u64);
+    show::text(b", seal body ");
+    show::number(body as u64);
+    show::text(b": ");
     seals(sender(0), frame, h + body, 2400, expected);
 }
 
@@ -249,11 +216,11 @@ fn seal_size(frame: [u8; 2400], h: usize, body: usize, expected: u64)
 fn open_size(text: [u8; 2400], h: usize, more: usize, frame: [u8; 2400], expected: u64)
     requires { ⌜ (h ≤ 32) × (more ≤ 2313) ⌝ }
 {
-    say(b"header ");
-    number(h as u64);
-    say(b", open ");
-    number(more as u64);
-    say(b" more: ");
+    show::text(b"header ");
+    show::number(h as u64);
+    show::text(b", open ");
+    show::number(more as u64);
+    show::text(b" more: ");
     opens(receiver(0, 0), text, h + more, 2400, frame, expected);
 }
 
@@ -280,27 +247,27 @@ fn rooms() {
     let text = text_of(frame, 25, 0);
     let s = sender(0);
     let r = receiver(0, 0);
-    say(b"seal to 41 octets, room 40: ");
+    show::text(b"seal to 41 octets, room 40: ");
     seals(s, frame, 25, 40, 6);
-    say(b"seal to 41 octets, room 41: ");
+    show::text(b"seal to 41 octets, room 41: ");
     seals(s, frame, 25, 41, 0);
-    say(b"open to 25 octets, room 24: ");
+    show::text(b"open to 25 octets, room 24: ");
     opens(r, text, 41, 24, frame, 6);
-    say(b"open to 25 octets, room 25: ");
+    show::text(b"open to 25 octets, room 25: ");
     opens(r, text, 41, 25, frame, 0);
 }
 
 // The last packet number of all.
 fn last_number() {
     let frame = plain(0x08, 0x00);
-    say(b"seal after 2^48 - 2: ");
+    show::text(b"seal after 2^48 - 2: ");
     let spent = seals(sender(MOST - 1), frame, 25, 2400, 0);
-    say(b"seal once more: ");
+    show::text(b"seal once more: ");
     seals(spent, frame, 25, 2400, 12);
     let text = text_of(frame, 25, MOST - 1);
-    say(b"open number 2^48 - 1: ");
+    show::text(b"open number 2^48 - 1: ");
     let r = opens(receiver(0, 0), text, 41, 2400, frame, 0);
-    say(b"open it again: ");
+    show::text(b"open it again: ");
     opens(r, text, 41, 2400, frame, 10);
 }
 
@@ -308,16 +275,16 @@ fn replays() {
     let frame = plain(0x88, 0x00);
     let other = plain(0x08, 0x00);
     let r = receiver(6, 7);
-    say(b"counter 7, open number 7: ");
+    show::text(b"counter 7, open number 7: ");
     opens(r, text_of(frame, 27, 6), 43, 2400, frame, 10);
-    say(b"counter 7, open number 8: ");
+    show::text(b"counter 7, open number 8: ");
     opens(r, text_of(frame, 27, 7), 43, 2400, frame, 0);
-    say(b"counter 7 of another priority, open number 1: ");
+    show::text(b"counter 7 of another priority, open number 1: ");
     opens(r, text_of(other, 25, 0), 41, 2400, other, 0);
     let zero = with(text_of(frame, 27, 0), 26, 0);
-    say(b"counter 7, open number 0: ");
+    show::text(b"counter 7, open number 0: ");
     opens(r, zero, 43, 2400, frame, 10);
-    say(b"counter 0, open number 0: ");
+    show::text(b"counter 0, open number 0: ");
     opens(receiver(0, 0), zero, 43, 2400, frame, 10);
 }
 
@@ -326,37 +293,37 @@ fn seal_answers() {
     let frame = plain(0x08, 0x00);
     let fresh = ccmp::fresh_sender(key(), 2, address());
     let s = fresh.sender;
-    say(b"seal 23 octets: ");
+    show::text(b"seal 23 octets: ");
     let s = seals(s, frame, 23, 2400, 2);
-    say(b"seal version 1: ");
+    show::text(b"seal version 1: ");
     let s = seals(s, plain(0x09, 0x00), 25, 2400, 3);
-    say(b"seal type 0: ");
+    show::text(b"seal type 0: ");
     let s = seals(s, plain(0xb0, 0x00), 25, 2400, 3);
-    say(b"seal a frame with no data: ");
+    show::text(b"seal a frame with no data: ");
     let s = seals(s, plain(0x48, 0x00), 25, 2400, 3);
-    say(b"seal a protected frame: ");
+    show::text(b"seal a protected frame: ");
     let s = seals(s, plain(0x08, 0x40), 25, 2400, 4);
-    say(b"seal 31 octets of header 32: ");
+    show::text(b"seal 31 octets of header 32: ");
     let s = seals(s, plain(0x88, 0x03), 31, 2400, 2);
-    say(b"seal no body: ");
+    show::text(b"seal no body: ");
     let s = seals(s, frame, 24, 2400, 5);
-    say(b"seal with no room: ");
+    show::text(b"seal with no room: ");
     let s = seals(s, frame, 25, 0, 6);
-    say(b"seal another's frame: ");
+    show::text(b"seal another's frame: ");
     let s = seals(s, with(frame, 15, 9), 25, 2400, 7);
     seal_answers_later(s, frame);
 }
 
 fn seal_answers_later(s: Sender, frame: [u8; 2400]) {
-    say(b"seal: ");
+    show::text(b"seal: ");
     let mut s = seals(s, frame, 25, 2400, 0);
-    say(b"seal again: ");
+    show::text(b"seal again: ");
     s = seals(s, frame, 25, 2400, 0);
     s.last = MOST;
-    say(b"seal, spent: ");
+    show::text(b"seal, spent: ");
     s = seals(s, frame, 25, 2400, 12);
     s.key_id = 4;
-    say(b"seal, not sound: ");
+    show::text(b"seal, not sound: ");
     seals(s, frame, 25, 2400, 1);
 }
 
@@ -366,48 +333,48 @@ fn open_answers() {
     let text = text_of(frame, 25, 0);
     let fresh = ccmp::fresh_receiver(key(), 2, address());
     let r = fresh.receiver;
-    say(b"open 23 octets: ");
+    show::text(b"open 23 octets: ");
     let r = opens(r, text, 23, 2400, frame, 2);
-    say(b"open version 1: ");
+    show::text(b"open version 1: ");
     let r = opens(r, with(text, 0, 0x09), 41, 2400, frame, 3);
-    say(b"open type 0: ");
+    show::text(b"open type 0: ");
     let r = opens(r, with(text, 0, 0xb0), 41, 2400, frame, 3);
-    say(b"open a frame with no data: ");
+    show::text(b"open a frame with no data: ");
     let r = opens(r, with(text, 0, 0x48), 41, 2400, frame, 3);
-    say(b"open a plain frame: ");
+    show::text(b"open a plain frame: ");
     let r = opens(r, with(text, 1, 0), 41, 2400, frame, 4);
-    say(b"open 31 octets of header 32: ");
+    show::text(b"open 31 octets of header 32: ");
     let r = opens(r, plain(0x88, 0x43), 31, 2400, frame, 2);
-    say(b"open with a body of 0: ");
+    show::text(b"open with a body of 0: ");
     let r = opens(r, text, 40, 2400, frame, 5);
-    say(b"open with no room: ");
+    show::text(b"open with no room: ");
     let r = opens(r, text, 41, 0, frame, 6);
-    say(b"open another's frame: ");
+    show::text(b"open another's frame: ");
     let r = opens(r, with(text, 15, 9), 41, 2400, frame, 7);
     open_answers_later(r, frame, text);
 }
 
 fn open_answers_later(r: Receiver, frame: [u8; 2400], text: [u8; 2400]) {
-    say(b"open with ExtIV 0: ");
+    show::text(b"open with ExtIV 0: ");
     let r = opens(r, with(text, 27, 0x80), 41, 2400, frame, 8);
-    say(b"open with key ID 1: ");
+    show::text(b"open with key ID 1: ");
     let r = opens(r, with(text, 27, 0x60), 41, 2400, frame, 9);
-    say(b"open number 0: ");
+    show::text(b"open number 0: ");
     let r = opens(r, with(text, 24, 0), 41, 2400, frame, 10);
-    say(b"open under another number: ");
+    show::text(b"open under another number: ");
     let r = opens(r, with(text, 24, 2), 41, 2400, frame, 11);
-    say(b"open with A1 damaged: ");
+    show::text(b"open with A1 damaged: ");
     let r = opens(r, with(text, 4, 0xff), 41, 2400, frame, 11);
-    say(b"open with the text damaged: ");
+    show::text(b"open with the text damaged: ");
     let r = opens(r, with(text, 32, text[32] ^ 1), 41, 2400, frame, 11);
-    say(b"open with the code damaged: ");
+    show::text(b"open with the code damaged: ");
     let r = opens(r, with(text, 40, text[40] ^ 1), 41, 2400, frame, 11);
-    say(b"open: ");
+    show::text(b"open: ");
     let r = opens(r, text, 41, 2400, frame, 0);
-    say(b"open it again: ");
+    show::text(b"open it again: ");
     let mut r = opens(r, text, 41, 2400, frame, 10);
     r.key_id = 4;
-    say(b"open, not sound: ");
+    show::text(b"open, not sound: ");
     opens(r, text, 41, 2400, frame, 1);
 }
 
@@ -416,12 +383,12 @@ fn senders() {
     let frame = plain(0x08, 0x00);
     let mut s = sender(0);
     s.key_id = 3;
-    say(b"seal, key ID 3: ");
+    show::text(b"seal, key ID 3: ");
     seals(s, frame, 25, 2400, 0);
     s.key_id = 4;
-    say(b"seal, key ID 4: ");
+    show::text(b"seal, key ID 4: ");
     seals(s, frame, 25, 2400, 1);
-    say(b"seal, last number 2^48: ");
+    show::text(b"seal, last number 2^48: ");
     seals(sender(MOST + 1), frame, 25, 2400, 1);
 }
 
@@ -430,11 +397,11 @@ fn receivers() {
     let text = text_of(frame, 25, 0);
     let mut r = receiver(0, 0);
     r.key_id = 4;
-    say(b"open, key ID 4: ");
+    show::text(b"open, key ID 4: ");
     opens(r, text, 41, 2400, frame, 1);
-    say(b"open, a replay counter of 2^48 - 1: ");
+    show::text(b"open, a replay counter of 2^48 - 1: ");
     opens(receiver(15, MOST), text, 41, 2400, frame, 0);
-    say(b"open, a replay counter of 2^48: ");
+    show::text(b"open, a replay counter of 2^48: ");
     opens(receiver(15, MOST + 1), text, 41, 2400, frame, 1);
 }
 
@@ -447,10 +414,10 @@ fn zero_sender(s: Sender) -> bool {
     if s.last != 0 {
         return false;
     }
-    if !all_are(&key, 0) {
+    if !octets::equal(&key, &[0; 16]) {
         return false;
     }
-    all_are(&address, 0)
+    octets::equal(&address, &[0; 6])
 }
 
 fn zero_receiver(r: Receiver) -> bool {
@@ -460,29 +427,33 @@ fn zero_receiver(r: Receiver) -> bool {
     if r.key_id != 0 {
         return false;
     }
-    if !all_are(&key, 0) {
+    if !octets::equal(&key, &[0; 16]) {
         return false;
     }
-    if !all_are(&peer, 0) {
+    if !octets::equal(&peer, &[0; 6]) {
         return false;
     }
     zero_counters(replay)
 }
 
 // Document 01 gives a fresh record an answer, but no number, priority or octets with it.
-fn print_fresh(a: Answer, zeros: bool, key_id: u8) {
+fn print_fresh(record: &[u8], asked: u8, a: Answer, zeros: bool, key_id: u8) {
+    show::text(record);
+    show::text(b", key ID ");
+    show::number(asked as u64);
+    show::text(b": ");
     match a {
-        Answer::Done(_, _, _) => say(b"done"),
+        Answer::Done(_, _, _) => show::text(b"done"),
         Answer::Refused(x) => {
-            say(b"refused ");
-            number(x as u64);
+            show::text(b"refused ");
+            show::number(x as u64);
         }
     }
     if zeros {
-        say(b", all zeros");
+        show::text(b", all zeros");
     } else {
-        say(b", key ID ");
-        number(key_id as u64);
+        show::text(b", key ID ");
+        show::number(key_id as u64);
     }
 }
 
@@ -490,12 +461,9 @@ fn fresh_sender(key_id: u8, expected: u64) {
     let fresh = ccmp::fresh_sender(key(), key_id, address());
     let answer = fresh.answer;
     let s = fresh.sender;
-    say(b"fresh sender, key ID ");
-    number(key_id as u64);
-    say(b": ");
-    print_fresh(answer, zero_sender(s), s.key_id);
-    say(b", last ");
-    number(s.last);
+    print_fresh(b"fresh sender", key_id, answer, zero_sender(s), s.key_id);
+    show::text(b", last ");
+    show::number(s.last);
     print_expected(expected);
 }
 
@@ -503,10 +471,13 @@ fn fresh_receiver(key_id: u8, expected: u64) {
     let fresh = ccmp::fresh_receiver(key(), key_id, address());
     let answer = fresh.answer;
     let r = fresh.receiver;
-    say(b"fresh receiver, key ID ");
-    number(key_id as u64);
-    say(b": ");
-    print_fresh(answer, zero_receiver(r), r.key_id);
+    print_fresh(
+        b"fresh receiver",
+        key_id,
+        answer,
+        zero_receiver(r),
+        r.key_id,
+    );
     let counts = r.counts;
     print_counts(counts);
     print_expected(expected);
@@ -518,21 +489,21 @@ fn seal_order() {
     let s = sender(0);
     let mut unsound = s;
     unsound.key_id = 4;
-    say(b"seal, not sound, 23 octets: ");
+    show::text(b"seal, not sound, 23 octets: ");
     seals(unsound, frame, 23, 2400, 1);
-    say(b"seal, 23 octets, no data: ");
+    show::text(b"seal, 23 octets, no data: ");
     seals(s, plain(0x48, 0x00), 23, 2400, 2);
-    say(b"seal, no data, protected: ");
+    show::text(b"seal, no data, protected: ");
     seals(s, plain(0x48, 0x40), 25, 2400, 3);
-    say(b"seal, protected, 31 octets of header 32: ");
+    show::text(b"seal, protected, 31 octets of header 32: ");
     seals(s, plain(0x88, 0x43), 31, 2400, 4);
-    say(b"seal, 31 octets of header 32, no room: ");
+    show::text(b"seal, 31 octets of header 32, no room: ");
     seals(s, plain(0x88, 0x03), 31, 0, 2);
-    say(b"seal, no body, no room: ");
+    show::text(b"seal, no body, no room: ");
     seals(s, frame, 24, 0, 5);
-    say(b"seal, room 40, another's frame: ");
+    show::text(b"seal, room 40, another's frame: ");
     seals(s, with(frame, 15, 9), 25, 40, 6);
-    say(b"seal, another's frame, spent: ");
+    show::text(b"seal, another's frame, spent: ");
     seals(sender(MOST), with(frame, 15, 9), 25, 41, 7);
 }
 
@@ -541,15 +512,15 @@ fn open_order() {
     let r = receiver(0, 0);
     let mut unsound = r;
     unsound.key_id = 4;
-    say(b"open, not sound, 23 octets: ");
+    show::text(b"open, not sound, 23 octets: ");
     opens(unsound, frame, 23, 2400, frame, 1);
-    say(b"open, 23 octets, no data: ");
+    show::text(b"open, 23 octets, no data: ");
     opens(r, plain(0x48, 0x40), 23, 2400, frame, 2);
-    say(b"open, no data, not protected: ");
+    show::text(b"open, no data, not protected: ");
     opens(r, plain(0x48, 0x00), 41, 2400, frame, 3);
-    say(b"open, not protected, 31 octets of header 32: ");
+    show::text(b"open, not protected, 31 octets of header 32: ");
     opens(r, plain(0x88, 0x03), 31, 2400, frame, 4);
-    say(b"open, 31 octets of header 32, no room: ");
+    show::text(b"open, 31 octets of header 32, no room: ");
     opens(r, plain(0x88, 0x43), 31, 0, frame, 2);
     open_order_later(r, frame);
 }
@@ -557,17 +528,17 @@ fn open_order() {
 fn open_order_later(r: Receiver, frame: [u8; 2400]) {
     let text = text_of(frame, 25, 0);
     let other = with(text, 15, 9);
-    say(b"open, a body of 0, no room: ");
+    show::text(b"open, a body of 0, no room: ");
     opens(r, text, 40, 0, frame, 5);
-    say(b"open, room 24, another's frame: ");
+    show::text(b"open, room 24, another's frame: ");
     opens(r, other, 41, 24, frame, 6);
-    say(b"open, another's frame, ExtIV 0: ");
+    show::text(b"open, another's frame, ExtIV 0: ");
     opens(r, with(other, 27, 0x80), 41, 25, frame, 7);
-    say(b"open, ExtIV 0, key ID 1: ");
+    show::text(b"open, ExtIV 0, key ID 1: ");
     opens(r, with(text, 27, 0x40), 41, 25, frame, 8);
-    say(b"open, key ID 1, number 0: ");
+    show::text(b"open, key ID 1, number 0: ");
     opens(r, with(with(text, 27, 0x60), 24, 0), 41, 25, frame, 9);
-    say(b"open, a replay, text damaged: ");
+    show::text(b"open, a replay, text damaged: ");
     let damaged = with(text, 32, text[32] ^ 1);
     opens(receiver(0, 1), damaged, 41, 25, frame, 10);
 }
@@ -584,15 +555,15 @@ fn counts() {
         opened: MOST_COUNT,
     };
     r.counts = full;
-    say(b"full counts, open with no room: ");
+    show::text(b"full counts, open with no room: ");
     r = opens(r, text, 41, 0, frame, 6);
-    say(b"full counts, open 23 octets: ");
+    show::text(b"full counts, open 23 octets: ");
     r = opens(r, text, 23, 2400, frame, 2);
-    say(b"full counts, open number 0: ");
+    show::text(b"full counts, open number 0: ");
     r = opens(r, with(text, 24, 0), 41, 2400, frame, 10);
-    say(b"full counts, open under another number: ");
+    show::text(b"full counts, open under another number: ");
     r = opens(r, with(text, 24, 2), 41, 2400, frame, 11);
-    say(b"full counts, open: ");
+    show::text(b"full counts, open: ");
     opens(r, text, 41, 2400, frame, 0);
 }
 

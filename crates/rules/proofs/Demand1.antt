@@ -1,0 +1,71 @@
+-- Demand 1: the tests of a call give its numbers alone, and what a refusal keeps is what the definitions of the record and the output say.
+use mathlib.Core.Path.{_≡_, refl, ap}
+use mathlib.Core.Bool.{Bool, true, false, cond}
+use mathlib.Core.List.{List}
+use Prim.Native.Nat.{ℕ, _+_, _-_, _%_}
+use native.Mathlib.Omega.{arith}
+use lib.Dec.{T, eqb}
+use lib.ListN.{length}
+use Rattle.rules.specs.Limits.{countLimit}
+use Rattle.rules.specs.Header.{priority}
+use Rattle.rules.specs.Nonce.{number}
+use Rattle.rules.specs.Mode.{added}
+use Rattle.rules.specs.Records.{senderNext, formatCount, replayCount, decryptCount, openedCount, countOf, counted, receiverNext}
+use Rattle.rules.specs.Answers.{among, answerNumber}
+use Rattle.rules.specs.Sealing.{sealTests, sealAnswer, sealOutput}
+use Rattle.rules.specs.Opening.{openTests, openAnswer, openOutput}
+use Rattle.rules.specs.Counts.{bit}
+use Rattle.rules.specs.Demand1.{sealNumbers, openNumbers, formatAnswers, replayAnswers, decryptAnswers, openedAnswers, oneMore, Demand1}
+use Rattle.rules.specs.declared.Sender.{Sender}
+use Rattle.rules.specs.declared.Receiver.{Receiver}
+use Rattle.rules.specs.declared.Answer.{Answer}
+use Rattle.rules.specs.declared.Answer.the-variants.{Done}
+use Rattle.rules.proofs.Passing.{of-first}
+use Rattle.rules.proofs.Counting.{moves, has, format-moves, replay-moves, decrypt-moves, opened-moves}
+
+is-true : (b : Bool) → T b → b ≡ true
+is-true true t = refl
+is-true false t = absurd t
+
+same-bit : (a b : Bool) → bit a ≡ bit b → a ≡ b
+same-bit true true e = refl
+same-bit true false e = absurd (omega arith)
+same-bit false true e = absurd (omega arith)
+same-bit false false e = refl
+
+one-more : (c : ℕ) (ns : List ℕ) (a : Answer) (v : ℕ) → moves c a ≡ has ns a → counted c (countOf a) v ≡ oneMore ns (answerNumber a) v
+one-more c ns a v e =
+    ap (λ (b : Bool). cond b ((v + 1) % countLimit) v) (same-bit (eqb (countOf a) c) (among ns (answerNumber a)) e)
+
+seal-numbered : (s : Sender) (f room : List ℕ) → among sealNumbers (answerNumber (sealAnswer s f room)) ≡ true
+unfolding sealAnswer
+seal-numbered s f room =
+    is-true _ (of-first (λ a. among sealNumbers (answerNumber a)) (sealTests s f (length room)) (Done (s .last + 1) (priority f) (length f + added)) tt tt)
+
+open-numbered : (r : Receiver) (f room : List ℕ) → among openNumbers (answerNumber (openAnswer r f room)) ≡ true
+unfolding openAnswer
+open-numbered r f room =
+    is-true _ (of-first (λ a. among openNumbers (answerNumber a)) (openTests r f (length room)) (Done (number f) (priority f) (length f - added)) tt tt)
+
+pub demand-1 : Demand1
+unfolding senderNext receiverNext sealOutput openOutput
+demand-1 = (
+  (λ s f room.
+      record { numbered = seal-numbered s f room; record-kept = λ x e. rw e; output-kept = λ x e. rw e }),
+  (λ r f room.
+      record {
+        numbered = open-numbered r f room;
+        key-kept = refl;
+        id-kept = refl;
+        peer-kept = refl;
+        counters-kept = λ x e. rw e;
+        output-kept = λ x e. rw e;
+        one-moved =
+            record {
+              format-errors = one-more formatCount formatAnswers (openAnswer r f room) (r .counts .«format_errors») (format-moves r f room);
+              replays = one-more replayCount replayAnswers (openAnswer r f room) (r .counts .replays) (replay-moves r f room);
+              decrypt-errors = one-more decryptCount decryptAnswers (openAnswer r f room) (r .counts .«decrypt_errors») (decrypt-moves r f room);
+              opened = one-more openedCount openedAnswers (openAnswer r f room) (r .counts .opened) (opened-moves r f room);
+            };
+      }),
+)
