@@ -7,7 +7,7 @@ mod code; // code.rt: the code of a message, in clear or encrypted
 
 use code::code_of;
 use code::verified;
-use limits::CODE_OCTETS;
+pub use limits::CODE_OCTETS;
 use limits::LEAST_DATA;
 use limits::MOST_DATA;
 use limits::MOST_MESSAGE;

@@ -1,11 +1,11 @@
-mod Addresses
 mod Answering
 mod Counters
 mod Data
 mod Frames
-mod Heads
+mod Headers
 mod Keys
 mod Masks
+mod Modes
 mod Numbers
-mod Refusals
+mod Verdicts
 mod Writes

@@ -3,21 +3,24 @@ use rules::Answer;
 use rules::Receiver;
 use rules::Sender;
 
-mod header; // header.rt: the fields of a frame
+mod header; // header.rt: the header of a frame
 mod nonce; // nonce.rt: the nonce
 mod number; // number.rt: the packet number in the CCMP header
 mod record; // record.rt: the two records
-mod tests; // tests.rt: the tests that sealing and opening share
-mod head; // head.rt: the header of a result
+mod mode; // mode.rt: CCM over AES
+mod verdict; // verdict.rt: the tests of the header
 mod sealing; // sealing.rt: a plain frame sealed
 mod opening; // opening.rt: a sealed frame opened
 
+pub use mode::ADDED;
 pub use opening::open;
 pub use record::MOST_KEY_ID;
+pub use record::MOST_NUMBER;
 pub use record::fresh_receiver;
 pub use record::fresh_sender;
 pub use record::new_receiver;
 pub use record::new_sender;
+pub use sealing::MOST_BODY;
 pub use sealing::seal;
 
 // What a call on a sender answers, and the sender afterwards.

@@ -10,30 +10,34 @@ ghost use Rattle.octets.specs.Options.{contents, isNone};
 ghost use Rattle.rules.specs.Limits.{leastHeader, mostHeader, mostBody};
 ghost use Rattle.rules.specs.Mode.{codeOctets, sealedText, openedBody};
 
-// The octets of the integrity code, and those that sealing adds.
-const CODE: usize = 8;
-
-pub const ADDED: usize = CCMP_HEADER + CODE;
+// The octets that sealing adds: the CCMP header and the code.
+pub const ADDED: usize = CCMP_HEADER + ccm::CODE_OCTETS;
 
 // The text of a body into the front of out.
-pub(crate) fn put_text(key: [u8; 16], nonce: [u8; 13], data: &[u8], body: &[u8], out: &mut [u8])
-    requires { ⌜ (leastHeader - 2 ≤ length (now data)) × (length (now data) ≤ mostHeader - 2) × (length (now body) ≤ mostBody) ⌝ }
+pub(crate) fn put_text(key: [u8; 16], nonce: [u8; 13], aad: &[u8], body: &[u8], out: &mut [u8])
+    requires { ⌜ (leastHeader - 2 ≤ length (now aad)) × (length (now aad) ≤ mostHeader - 2) × (length (now body) ≤ mostBody) ⌝ }
     requires { ⌜ length (now body) + codeOctets ≤ length (now out) ⌝ }
     ensures { λ _. ⌜
-        now (out .exit) ≡ contents (sealedText key nonce (now (data .entry)) (now (body .entry))) ++ drop (length (now (body .entry)) + codeOctets) (now (out .entry)) ⌝ }
+        now (out .exit) ≡ contents (sealedText key nonce (now (aad .entry)) (now (body .entry))) ++ drop (length (now (body .entry)) + codeOctets) (now (out .entry)) ⌝ }
 {
-    ccm::seal(key, nonce, data, body, out);
+    ccm::seal(key, nonce, aad, body, out);
 }
 
 // The body of a text into the front of out, where the code is right.
-pub(crate) fn put_body(key: [u8; 16], nonce: [u8; 13], data: &[u8], text: &[u8], out: &mut [u8]) -> bool
+pub(crate) fn put_body(
+    key: [u8; 16],
+    nonce: [u8; 13],
+    aad: &[u8],
+    text: &[u8],
+    out: &mut [u8],
+) -> bool
     requires { ⌜ length (now text) - codeOctets ≤ length (now out) ⌝ }
-    ensures { λ b. ⌜ b ≡ not (isNone (openedBody key nonce (now (data .entry)) (now (text .entry)))) ⌝ }
+    ensures { λ b. ⌜ b ≡ not (isNone (openedBody key nonce (now (aad .entry)) (now (text .entry)))) ⌝ }
     ensures { λ _. ⌜
-        now (out .exit) ≡ contents (openedBody key nonce (now (data .entry)) (now (text .entry)))
-        ++ drop (length (contents (openedBody key nonce (now (data .entry)) (now (text .entry))))) (now (out .entry)) ⌝ }
+        now (out .exit) ≡ contents (openedBody key nonce (now (aad .entry)) (now (text .entry)))
+        ++ drop (length (contents (openedBody key nonce (now (aad .entry)) (now (text .entry))))) (now (out .entry)) ⌝ }
 {
-    match ccm::open(key, nonce, data, text, out) {
+    match ccm::open(key, nonce, aad, text, out) {
         Outcome::Refused => false,
         Outcome::Done(_) => true,
     }

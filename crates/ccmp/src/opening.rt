@@ -1,98 +1,99 @@
 // Opening.
 use crate::Opened;
-use crate::head::put_head;
 use crate::header::authenticated_data;
-use crate::header::header_length;
-use crate::header::priority_of;
+use crate::header::put_header;
+use crate::mode::ADDED;
+use crate::mode::put_body;
 use crate::nonce::nonce_of;
+use crate::number::CCMP_HEADER;
 use crate::number::number_at;
 use crate::record::after_opening;
 use crate::record::after_refusal;
 use crate::record::sound_receiver;
-use crate::tests::ADDED;
-use crate::tests::LEAST_SEALED;
-use crate::tests::MOST_SEALED;
-use crate::tests::head_refusal;
-use crate::tests::outside;
-use crate::tests::place_refusal;
-use ccm::Outcome;
+use crate::sealing::LEAST_BODY;
+use crate::sealing::MOST_BODY;
+use crate::verdict::Verdict;
+use crate::verdict::header_tests;
+use crate::verdict::outside;
 use rules::Answer;
+use rules::Header;
 use rules::Receiver;
 ghost use mathlib.Core.Path.{_≡_};
-ghost use mathlib.Core.Bool.{cond, not};
+ghost use mathlib.Core.Bool.{true, cond, not};
 ghost use mathlib.Core.List.{_++_};
-ghost use Prim.Native.Nat.{_+_, _-_, _≤_, _<_};
-ghost use lib.ListN.{length, take, drop};
+ghost use Prim.Native.Nat.{_-_};
+ghost use lib.ListN.{length, drop};
 ghost use Rattle.octets.specs.Options.{isNone};
-ghost use Rattle.rules.specs.Header.{headerLength, priority};
+ghost use Rattle.rules.specs.Header.{headerOf};
 ghost use Rattle.rules.specs.Nonce.{number};
-ghost use Rattle.rules.specs.Records.{receiverNext};
+ghost use Rattle.rules.specs.Mode.{added};
+ghost use Rattle.rules.specs.Records.{soundReceiver, receiverNext};
 ghost use Rattle.rules.specs.Answers.{told};
-ghost use Rattle.rules.specs.Opening.{openedBody, openedFrame, openTests, openAnswer, openOutput};
-ghost use Rattle.ccmp.specs.Tests.{refusal, ccmpTests};
+ghost use Rattle.rules.specs.Tests.{headerTests, bodyOf};
+ghost use Rattle.rules.specs.Opening.{openedFrame, earlierTests, openAnswer, openOutput, Openable};
+ghost use Rattle.ccmp.specs.Verdict.{verdict};
 
-// Tests 8, 9 and 10: ExtIV, the key ID and the replay counter.
-fn ccmp_refusal(r: Receiver, frame: &[u8], h: usize) -> u8
-    requires { ⌜ (h ≡ headerLength (now frame)) × (h + 8 ≤ length (now frame)) ⌝ }
-    ensures { λ a. ⌜ a ≡ refusal (ccmpTests r (now (frame .entry))) ⌝ }
+// Tests 5 to 10, after those of the record and of the header.
+fn later_tests(r: Receiver, frame: &[u8], header: Header, room: usize) -> Verdict
+    requires { ⌜ (soundReceiver r ≡ true) × (Verdict.Pass header ≡ verdict (headerTests 0 (now frame)) (headerOf (now frame))) ⌝ }
+    ensures { λ v. ⌜ v ≡ verdict (earlierTests r (now (frame .entry)) room) (headerOf (now (frame .entry))) ⌝ }
 {
-    let octet = frame[h + 3];
-    if octet & 0x20 == 0 {
-        return 8;
+    let h = header.length;
+    if outside(LEAST_BODY + ADDED, MOST_BODY + ADDED, frame.len() - h) {
+        return Verdict::Refuse(5);
     }
-    if octet >> 6 != r.key_id {
-        return 9;
-    }
-    let replay = r.replay;
-    let at = priority_of(frame, h) as usize;
-    if number_at(frame, h) <= replay[at] {
-        return 10;
-    }
-    0
-}
-
-// The number of the first of tests 1 to 10 that refuses, or 0.
-fn open_refusal(r: Receiver, frame: &[u8], room: usize) -> u8
-    ensures { λ a. ⌜ a ≡ refusal (take 11 (openTests r (now (frame .entry)) room)) ⌝ }
-{
-    if !sound_receiver(r) {
-        return 1;
-    }
-    let head = head_refusal(frame, 0);
-    if head != 0 {
-        return head;
-    }
-    let h = header_length(frame);
-    if outside(LEAST_SEALED, MOST_SEALED, frame.len() - h) {
-        return 5;
+    if room < frame.len() - ADDED {
+        return Verdict::Refuse(6);
     }
     let peer = r.peer;
-    let place = place_refusal(frame, room, frame.len() - ADDED, peer);
-    if place != 0 {
-        return place;
+    if !octets::equal(&frame[10..16], &peer) {
+        return Verdict::Refuse(7);
     }
-    ccmp_refusal(r, frame, h)
+    let octet = frame[h + 3];
+    if octet & 0x20 == 0 {
+        return Verdict::Refuse(8);
+    }
+    if octet >> 6 != r.key_id {
+        return Verdict::Refuse(9);
+    }
+    let replay = r.replay;
+    let at = header.priority as usize;
+    if number_at(frame, h) <= replay[at] {
+        return Verdict::Refuse(10);
+    }
+    Verdict::Pass(header)
+}
+
+// The tests of opening before the last.
+fn open_tests(r: Receiver, frame: &[u8], room: usize) -> Verdict
+    ensures { λ v. ⌜ v ≡ verdict (earlierTests r (now (frame .entry)) room) (headerOf (now (frame .entry))) ⌝ }
+{
+    if !sound_receiver(r) {
+        return Verdict::Refuse(1);
+    }
+    match header_tests(frame, 0) {
+        Verdict::Refuse(n) => Verdict::Refuse(n),
+        Verdict::Pass(header) => later_tests(r, frame, header, room),
+    }
 }
 
 // The opened frame into the front of out, where the code is right: the body, and then the header with Protected cleared.
-fn put_opened(r: Receiver, n: u64, p: u8, frame: &[u8], h: usize, out: &mut [u8]) -> bool
-    requires { ⌜ (h ≡ headerLength (now frame)) × (p ≡ priority (now frame)) × (n ≡ number (now frame)) ⌝ }
-    requires { ⌜ (h + 17 ≤ length (now frame)) × (length (now frame) ≤ h + 2312) × (length (now frame) ≤ length (now out) + 16) ⌝ }
-    ensures { λ b. ⌜ b ≡ not (isNone (openedBody (r .key) (now (frame .entry)))) ⌝ }
-    ensures { λ b. ⌜ now (out .exit) ≡ cond b (openedFrame r (now (frame .entry)) ++ drop (length (now (frame .entry)) - 16) (now (out .entry))) (now (out .entry)) ⌝ }
+fn put_opened(r: Receiver, n: u64, header: Header, frame: &[u8], out: &mut [u8]) -> bool
+    requires { ⌜ (header ≡ headerOf (now frame)) × (n ≡ number (now frame)) × Openable r (now frame) (length (now out)) ⌝ }
+    ensures { λ b. ⌜ b ≡ not (isNone (bodyOf (r .key) (now (frame .entry)))) ⌝ }
+    ensures { λ b. ⌜ now (out .exit) ≡ cond b (openedFrame r (now (frame .entry)) ++ drop (length (now (frame .entry)) - added) (now (out .entry))) (now (out .entry)) ⌝ }
 {
-    let nonce = nonce_of(p, frame, n);
-    let data = authenticated_data(frame, h);
+    let nonce = nonce_of(header.priority, frame, n);
+    let data = authenticated_data(frame, header);
     let key = r.key;
-    let end = h - 2;
-    let text = h + 8;
-    match ccm::open(key, nonce, &data[0..end], &frame[text..], &mut out[h..]) {
-        Outcome::Refused => false,
-        Outcome::Done(_) => {
-            put_head(frame, h, frame[1] & 0xbf, out);
-            true
-        }
+    let end = header.data;
+    let h = header.length;
+    let text = h + CCMP_HEADER;
+    if !put_body(key, nonce, &data[0..end], &frame[text..], &mut out[h..]) {
+        return false;
     }
+    put_header(frame, h, frame[1] & 0xbf, out);
+    true
 }
 
 // Opens a sealed frame into the front of out; the rest of out is kept. A refusal writes nothing and moves no replay
@@ -102,27 +103,28 @@ pub fn open(r: Receiver, frame: &[u8], out: &mut [u8]) -> Opened
     ensures { λ o. ⌜ o .receiver ≡ receiverNext r (openAnswer r (now (frame .entry)) (now (out .entry))) ⌝ }
     ensures { λ _. ⌜ now (out .exit) ≡ openOutput r (now (frame .entry)) (now (out .entry)) ⌝ }
 {
-    let refusal = open_refusal(r, frame, out.len());
-    if refusal != 0 {
-        let next = after_refusal(r, refusal);
-        return Opened {
-            answer: Answer::Refused(refusal),
-            receiver: next,
-        };
-    }
-    let h = header_length(frame);
-    let p = priority_of(frame, h);
-    let n = number_at(frame, h);
-    if !put_opened(r, n, p, frame, h, out) {
-        let next = after_refusal(r, 11);
-        return Opened {
-            answer: Answer::Refused(11),
-            receiver: next,
-        };
-    }
-    let next = after_opening(r, n, p);
-    Opened {
-        answer: Answer::Done(n, p, frame.len() - ADDED),
-        receiver: next,
+    match open_tests(r, frame, out.len()) {
+        Verdict::Refuse(refusal) => {
+            let next = after_refusal(r, refusal);
+            Opened {
+                answer: Answer::Refused(refusal),
+                receiver: next,
+            }
+        }
+        Verdict::Pass(header) => {
+            let n = number_at(frame, header.length);
+            if !put_opened(r, n, header, frame, out) {
+                let next = after_refusal(r, 11);
+                return Opened {
+                    answer: Answer::Refused(11),
+                    receiver: next,
+                };
+            }
+            let next = after_opening(r, n, header.priority);
+            Opened {
+                answer: Answer::Done(n, header.priority, frame.len() - ADDED),
+                receiver: next,
+            }
+        }
     }
 }

@@ -11,7 +11,7 @@ ghost use Rattle.rules.specs.Limits.{mostNumber, priorities};
 ghost use Rattle.rules.specs.Answers.{told};
 ghost use Rattle.rules.specs.Records.{allAtMost, soundSender, soundReceiver, newSender, newReceiver, freshAnswer, freshSender, freshReceiver, senderNext, countOf, counted, countsNext, receiverNext};
 
-pub(crate) const MOST_NUMBER: u64 = 281474976710655;
+pub const MOST_NUMBER: u64 = 281474976710655;
 
 pub const MOST_KEY_ID: u8 = 3;
 

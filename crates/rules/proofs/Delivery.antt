@@ -8,7 +8,7 @@ use native.Mathlib.Omega.{arith}
 use borrow.Author.Tests.{leb-true, leb-false, lt-leb}
 use lib.Dec.{leb}
 use lib.ListN.{length, take, getD}
-use Rattle.rules.specs.Limits.{mostNumber}
+use Rattle.rules.specs.Limits.{mostNumber, mostKeyId}
 use Rattle.rules.specs.Records.{newSender, newReceiver, freshAnswer, freshSender, freshReceiver, senderNext}
 use Rattle.rules.specs.Sealing.{sealedFrame, sealAnswer}
 use Rattle.rules.specs.Opening.{openAnswer, openOutput}
@@ -44,7 +44,7 @@ run-alike s (c ∷ cs) =
     let b = next-alike s (sealAnswer s (c .frame) (c .room)) in
     record { key-is = a .key-is ∙ b .key-is; id-is = a .id-is ∙ b .id-is; address-is = a .address-is ∙ b .address-is }
 
-module _ (key address : List ℕ) (keyId : ℕ) (id-fits : keyId ≤ 3) where
+module _ (key address : List ℕ) (keyId : ℕ) (id-fits : keyId ≤ mostKeyId) where
   abbrev s₀ : Sender
   s₀ = newSender key keyId address
 
@@ -130,9 +130,9 @@ module _ (key address : List ℕ) (keyId : ℕ) (id-fits : keyId ≤ 3) where
   delivered cs ds i j n p od d = ((opened-above cs ds i j n p od d, opens cs ds i j n p od d), replayed cs ds i j n p od d)
 
 -- a record whose making wasn't refused
-pub made : (keyId : ℕ) → freshAnswer keyId ≡ Done 0 0 0 → leb keyId 3 ≡ true
+pub made : (keyId : ℕ) → freshAnswer keyId ≡ Done 0 0 0 → leb keyId mostKeyId ≡ true
 unfolding freshAnswer
-made keyId e = go (leb keyId 3) e
+made keyId e = go (leb keyId mostKeyId) e
   where
     go : (b : Bool) → cond b (Done 0 0 0) (Refused 1) ≡ Done 0 0 0 → b ≡ true
     go true q = refl
@@ -148,6 +148,6 @@ made-receiver key keyId peer e = rw (made keyId e)
 
 pub demand-3 : Demand3
 demand-3 key address keyId e =
-    let fits : keyId ≤ 3 = leb-true keyId 3 (made keyId e) in
+    let fits : keyId ≤ mostKeyId = leb-true keyId mostKeyId (made keyId e) in
     rw (made-sender key keyId address e, made-receiver key keyId address e)
     (delivered key address keyId fits, reordered key keyId address fits)

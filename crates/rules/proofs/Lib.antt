@@ -1,8 +1,10 @@
 pub mod Counting
 pub mod Delivery
-pub mod Examples
+pub mod Demand1
 pub mod Exactly
+pub mod Examples
 pub mod Fields
+pub mod Mode
 pub mod Numbering
 pub mod Passing
 pub mod Resealed
@@ -10,4 +12,3 @@ pub mod Rooms
 pub mod Runs
 pub mod Sealed
 pub mod Sums
-pub mod Texts

@@ -1,17 +1,18 @@
 -- The frames that a fresh sender seals carry 1, 2, 3, .. in order: its last number is the number of calls done.
 use mathlib.Core.Path.{_≡_, refl, sym, ap, _∙_}
-use mathlib.Core.Bool.{Bool, true}
+use mathlib.Core.Bool.{Bool, true, false, not}
 use mathlib.Core.List.{List, [], _∷_, _++_}
 use mathlib.Core.Logic.{⊎-elim}
 use Prim.Native.Nat.{ℕ, zero, suc, _+_, _<_, _≤_}
 use native.Mathlib.Nat.{eq-or-lt-of-le, le-of-suc-le-suc, not-suc-le-zero}
 use native.Mathlib.Omega.{arith}
-use lib.Dec.{eqb}
+use lib.Dec.{T, eqb}
 use lib.ListN.{length, take}
 use lib.Seq.{take-suc}
 use borrow.Author.Tests.{le-leb}
 use Rattle.rules.specs.Header.{priority}
 use Rattle.rules.specs.Nonce.{number}
+use Rattle.rules.specs.Mode.{added}
 use Rattle.rules.specs.Records.{soundSender, freshAnswer, newSender, senderNext}
 use Rattle.rules.specs.Answers.{answerNumber}
 use Rattle.rules.specs.Sealing.{sealTests, sealAnswer}
@@ -25,18 +26,24 @@ use Rattle.rules.proofs.Passing.{of-first, SealDone, seal-done}
 use Rattle.rules.proofs.Sealed.{sealed-number, written-is}
 use Rattle.rules.proofs.Delivery.{made, made-sender}
 
+-- a refusal's number is not 0
+abbrev told-by : Answer → Bool
+told-by (Done n p k) = true
+told-by (Refused a) = not (eqb a 0)
+
 -- a call moves the last number by one where it is done, and leaves it where it is refused
-abbrev Steps : Sender → Answer → Type 0
-Steps s a = senderNext s a .last ≡ s .last + bit (eqb (answerNumber a) 0)
-
-none : (n : ℕ) → n ≡ n + 0
-none n = omega arith
-
-steps : (s : Sender) (f room : List ℕ) → Steps s (sealAnswer s f room)
+steps : (s : Sender) (f room : List ℕ) → senderNext s (sealAnswer s f room) .last ≡ s .last + bit (eqb (answerNumber (sealAnswer s f room)) 0)
 unfolding sealAnswer senderNext
 steps s f room =
-    let z = none (s .last) in
-    of-first (Steps s) (sealTests s f (length room)) (Done (s .last + 1) (priority f) (length f + 16)) (z, (z, (z, (z, (z, (z, (z, (z, (z, tt))))))))) refl
+    go (sealAnswer s f room) (of-first told-by (sealTests s f (length room)) (Done (s .last + 1) (priority f) (length f + added)) tt tt)
+  where
+    kept : (b : Bool) → T (not b) → s .last ≡ s .last + bit b
+    kept true t = absurd t
+    kept false t = omega arith
+
+    go : (a : Answer) → T (told-by a) → senderNext s a .last ≡ s .last + bit (eqb (answerNumber a) 0)
+    go (Done n p k) t = refl
+    go (Refused a) t = kept (eqb a 0) t
 
 run-append : (s : Sender) (cs ds : List Call) → sealRun s (cs ++ ds) ≡ sealRun (sealRun s cs) ds
 run-append s [] ds = refl

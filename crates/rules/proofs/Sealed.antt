@@ -11,28 +11,30 @@ use lib.Dec.{leb}
 use lib.ListN.{length, take, drop, getD, length-drop, length-set, length-append, List·getD-append, take-append-drop}
 use lib.Seq.{getD-take, getD-set-same, getD-set-other, length-take-le, take-at, drop-at}
 use Rattle.octets.specs.Options.{contents}
-use Rattle.rules.specs.Limits.{mostNumber}
+use Rattle.rules.specs.Limits.{mostNumber, leastHeader, mostHeader, ccmpOctets, leastBody, mostBody}
 use Rattle.rules.specs.Header.{part, headerLength, address2, priority, protected, authenticated, protect, unprotect}
 use Rattle.rules.specs.Nonce.{nonce, ccmpHeader, ccmpOf, textOf, extended, keyIdIn, number}
+use Rattle.rules.specs.Mode.{codeOctets, added, sealedText}
+use Rattle.rules.specs.Tests.{bodyOf}
 use Rattle.rules.specs.Records.{soundReceiver}
-use Rattle.rules.specs.Sealing.{sealedText, sealedFrame, sealAnswer, sealOutput}
-use Rattle.rules.specs.Opening.{openedBody, openedFrame, openAnswer, openOutput}
+use Rattle.rules.specs.Sealing.{sealedFrame, sealAnswer, sealOutput, Sealable}
+use Rattle.rules.specs.Opening.{openedFrame, openAnswer, openOutput}
 use Rattle.rules.specs.Demand2.{Match, OpeningUndoesSealing}
 use Rattle.rules.specs.declared.Sender.{Sender}
 use Rattle.rules.specs.declared.Receiver.{Receiver}
 use Rattle.rules.specs.declared.Answer.the-variants.{Done, Refused}
-use Rattle.rules.proofs.Fields.{header-range, authenticated-size, Alike, kind-alike, length-alike, address-alike, priority-alike, authenticated-alike, unprotect-protect, number-in, key-in, extended-in}
-use Rattle.rules.proofs.Texts.{text-length, text-opens, text-is}
-use Rattle.rules.proofs.Passing.{not-outside, Sealable, seal-done}
+use Rattle.rules.proofs.Fields.{header-range, authenticated-size, data-range, Alike, kind-alike, length-alike, address-alike, priority-alike, authenticated-alike, unprotect-protect, number-in, key-in, extended-in}
+use Rattle.rules.proofs.Mode.{text-length, text-opens, text-is}
+use Rattle.rules.proofs.Passing.{not-outside, seal-done}
 
-back16 : (n : ℕ) → n + 16 - 16 ≡ n
-back16 n = omega arith
+back : (n : ℕ) → n + added - added ≡ n
+back n = omega arith
 
 module _ (s : Sender) (f : List ℕ) (n : ℕ) (ok : Sealable s f) where
   H : ℕ
   H = headerLength f
 
-  range : (24 ≤ headerLength f) × (headerLength f ≤ 32)
+  range : (leastHeader ≤ headerLength f) × (headerLength f ≤ mostHeader)
   range = header-range f
 
   abbrev head : List ℕ
@@ -51,21 +53,22 @@ module _ (s : Sender) (f : List ℕ) (n : ℕ) (ok : Sealable s f) where
   unfolding protect
   head-size = rw length-set front-size
 
-  ccmp-size : length ccmp ≡ 8
+  ccmp-size : length ccmp ≡ ccmpOctets
   unfolding ccmpHeader
   ccmp-size = refl
 
   pub sealed-is : sealedText (s .key) (nonce (priority f) (address2 f) n) (authenticated f) (drop (headerLength f) f) ≡ some text
   sealed-is =
       let a = authenticated-size f (ok .whole) in
-      text-is (s .key) (nonce (priority f) (address2 f) n) (authenticated f) (drop (headerLength f) f) (omega arith) (omega arith) (omega (arith, length-drop (headerLength f) f, ok .body))
+      let r = data-range f in
+      text-is (s .key) (nonce (priority f) (address2 f) n) (authenticated f) (drop (headerLength f) f) (omega arith) (omega arith) (omega (arith, length-drop (headerLength f) f, ok .most))
 
-  pub text-size : length text ≡ length f - headerLength f + 8
+  pub text-size : length text ≡ length f - headerLength f + codeOctets
   text-size =
       text-length (s .key) (nonce (priority f) (address2 f) n) (authenticated f) (drop (headerLength f) f) text sealed-is
-      ∙ ap (λ (x : ℕ). x + 8) (length-drop (headerLength f) f)
+      ∙ ap (λ (x : ℕ). x + codeOctets) (length-drop (headerLength f) f)
 
-  pub sealed-size : length (sealedFrame s n f) ≡ length f + 16
+  pub sealed-size : length (sealedFrame s n f) ≡ length f + added
   unfolding sealedFrame
   sealed-size = omega (arith, length-append head (ccmp ++ text), length-append ccmp text, head-size, ccmp-size, text-size, ok .whole)
 
@@ -99,19 +102,19 @@ module _ (s : Sender) (f : List ℕ) (n : ℕ) (ok : Sealable s f) where
   sealed-header : headerLength (sealedFrame s n f) ≡ headerLength f
   sealed-header = length-alike f (sealedFrame s n f) (headerLength f) sealed-alike (range .0)
 
-  sealed-part : part (sealedFrame s n f) (headerLength f) 8 ≡ ccmp
+  sealed-part : part (sealedFrame s n f) (headerLength f) ccmpOctets ≡ ccmp
   unfolding sealedFrame
-  sealed-part = ap (take 8) (drop-at head (ccmp ++ text) (headerLength f) head-size) ∙ take-at ccmp text 8 ccmp-size
+  sealed-part = ap (take ccmpOctets) (drop-at head (ccmp ++ text) (headerLength f) head-size) ∙ take-at ccmp text ccmpOctets ccmp-size
 
   sealed-ccmp : ccmpOf (sealedFrame s n f) ≡ ccmp
-  sealed-ccmp = ap (λ (h : ℕ). part (sealedFrame s n f) h 8) sealed-header ∙ sealed-part
+  sealed-ccmp = ap (λ (h : ℕ). part (sealedFrame s n f) h ccmpOctets) sealed-header ∙ sealed-part
 
   sealed-text : textOf (sealedFrame s n f) ≡ text
   unfolding sealedFrame
   sealed-text =
-      ap (λ (h : ℕ). drop (h + 8) (sealedFrame s n f)) sealed-header
-      ∙ ap (drop (headerLength f + 8)) (sym (append-assoc head ccmp text))
-      ∙ drop-at (head ++ ccmp) text (headerLength f + 8) (omega (arith, length-append head ccmp, head-size, ccmp-size))
+      ap (λ (h : ℕ). drop (h + ccmpOctets) (sealedFrame s n f)) sealed-header
+      ∙ ap (drop (headerLength f + ccmpOctets)) (sym (append-assoc head ccmp text))
+      ∙ drop-at (head ++ ccmp) text (headerLength f + ccmpOctets) (omega (arith, length-append head ccmp, head-size, ccmp-size))
 
   sealed-priority : priority (sealedFrame s n f) ≡ priority f
   sealed-priority = priority-alike f (sealedFrame s n f) (headerLength f) sealed-alike (range .0) refl
@@ -137,8 +140,8 @@ module _ (s : Sender) (f : List ℕ) (n : ℕ) (ok : Sealable s f) where
     sealed-number = rw sealed-ccmp (number-in n (s .«key_id») fits)
 
     module _ (r : Receiver) (sound : soundReceiver r ≡ true) (m : Match s r) where
-      sealed-opens : openedBody (r .key) (sealedFrame s n f) ≡ some (drop (headerLength f) f)
-      unfolding openedBody
+      sealed-opens : bodyOf (r .key) (sealedFrame s n f) ≡ some (drop (headerLength f) f)
+      unfolding bodyOf
       sealed-opens =
           rw (sealed-priority, sealed-address, sealed-number, sealed-authenticated, sealed-text, ← m .key)
           (text-opens (s .key) (nonce (priority f) (address2 f) n) (authenticated f) (drop (headerLength f) f) text sealed-is)
@@ -153,14 +156,14 @@ module _ (s : Sender) (f : List ℕ) (n : ℕ) (ok : Sealable s f) where
       sealed-answer room enough =
           rw (
             sound,
-            le-ltb (length (sealedFrame s n f)) 24 (omega (arith, sealed-size)),
+            le-ltb (length (sealedFrame s n f)) leastHeader (omega (arith, sealed-size)),
             kind-alike f (sealedFrame s n f) (headerLength f) sealed-alike (range .0) ∙ ok .kind,
             ne-eqb (protected (sealedFrame s n f)) 0 (λ e. omega (arith, sealed-protected)),
             sealed-header,
             le-ltb (length (sealedFrame s n f)) (headerLength f) (omega (arith, sealed-size, ok .whole)),
             sealed-size,
-            not-outside 17 2312 (length f + 16 - headerLength f) (omega (arith, ok .body)) (omega (arith, ok .body)),
-            le-ltb (length room) (length f + 16 - 16) (omega arith),
+            not-outside (leastBody + added) (mostBody + added) (length f + added - headerLength f) (omega (arith, ok .least)) (omega (arith, ok .most)),
+            le-ltb (length room) (length f + added - added) (omega arith),
             sealed-opens,
             sealed-address,
             ← m .address,
@@ -171,7 +174,7 @@ module _ (s : Sender) (f : List ℕ) (n : ℕ) (ok : Sealable s f) where
             eq-eqb (keyIdIn (ccmpHeader n (s .«key_id»))) (s .«key_id») (key-in n (s .«key_id») (ok .id-fits)),
             sealed-number,
             sealed-priority,
-            back16 (length f),
+            back (length f),
           )
 
 -- the octets that sealing writes are the frame that the rules give

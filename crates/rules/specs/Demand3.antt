@@ -1,14 +1,14 @@
 -- Demand 3: one packet number means one frame, over whole lists of calls from fresh records whose making wasn't refused.
 use mathlib.Core.Path.{_≡_}
-use mathlib.Core.Bool.{Bool, true, not, _&&_}
+use mathlib.Core.Bool.{Bool, true}
 use mathlib.Core.List.{List, _++_}
 use mathlib.Core.Logic.{_↔_}
 use Prim.Native.Nat.{ℕ, _<_, _≤_}
-use lib.Dec.{ltb, eqb}
 use lib.ListN.{length, take, drop}
-use Rattle.rules.specs.Limits.{leastHeader}
-use Rattle.rules.specs.Header.{headerLength, priority, protected, wrongKind}
+use Rattle.rules.specs.Header.{priority}
 use Rattle.rules.specs.Records.{freshAnswer, freshSender, freshReceiver}
+use Rattle.rules.specs.Answers.{noneApplies}
+use Rattle.rules.specs.Tests.{headerTests}
 use Rattle.rules.specs.Calls.{Call, at, OctetFrames, sealAnswerAt, sealOutputAt, openRun, openAnswerAt, openOutputAt}
 use Rattle.rules.specs.declared.Sender.{Sender}
 use Rattle.rules.specs.declared.Receiver.{Receiver}
@@ -37,7 +37,7 @@ IsReplayed r ds j = (openAnswerAt r ds j ≡ Refused 10) × (openOutputAt r ds j
 
 -- a delivery that tests 2, 3 and 4 of opening pass has a priority
 abbrev pub hasPriority : List ℕ → Bool
-hasPriority f = not (ltb (length f) leastHeader) && (not (wrongKind f) && (not (eqb (protected f) 0) && not (ltb (length f) (headerLength f))))
+hasPriority f = noneApplies (headerTests 0 f)
 
 -- ys has the deliveries of xs, number i at place `to i`, and no two of one priority change places
 pub record Rearranged (xs ys : List Call) : Type 0 where

@@ -1,11 +1,14 @@
 pub mod Limits
 pub mod Header
 pub mod Nonce
+pub mod Mode
 pub mod Records
 pub mod Answers
+pub mod Tests
 pub mod Sealing
 pub mod Opening
 pub mod Calls
+pub mod Demand1
 pub mod Demand2
 pub mod Demand3
 pub mod Counts

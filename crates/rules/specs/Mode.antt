@@ -3,12 +3,13 @@ use mathlib.Core.List.{List}
 use mathlib.Core.Option.{Option}
 use Prim.Native.Nat.{ℕ, _+_}
 use Rattle.aes.specs.KeyExpansion.{aes128}
+use Rattle.ccm.specs.Limits as ccm
 use Rattle.ccm.specs.Ccm.{sealed, opened}
 use Rattle.rules.specs.Limits.{ccmpOctets}
 
 -- the octets of the integrity code
 abbrev pub codeOctets : ℕ
-codeOctets = 8
+codeOctets = ccm.codeOctets
 
 -- the octets that sealing adds to a frame: the CCMP header and the code
 abbrev pub added : ℕ

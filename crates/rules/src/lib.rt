@@ -28,6 +28,17 @@ pub struct Counts {
     pub opened: u32,
 }
 
+// What a frame says of its own header.
+pub struct Header {
+    // H.
+    pub length: usize,
+    // The place of QoS Control, or of what stands there instead.
+    pub qos: usize,
+    pub priority: u8,
+    // The octets of the authenticated data.
+    pub data: usize,
+}
+
 pub enum Answer {
     // The packet number, the priority and the octets written.
     Done(u64, u8, usize),

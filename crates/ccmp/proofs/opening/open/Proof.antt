@@ -1,108 +1,117 @@
--- A refusal other than 0 is the answer; where it is 0 the code decides.
-use mathlib.Core.Path.{sym, ap, _∙_}
-use mathlib.Core.Bool.{cond}
+-- A refusal by the earlier tests is the answer; where none applies the code decides.
+use mathlib.Core.Path.{_≡_, sym, ap, _∙_}
+use mathlib.Core.Bool.{Bool, true, cond}
 use mathlib.Core.List.{List, _++_}
 use Prim.Native.Nat.{ℕ, _-_}
 use native.Mathlib.Omega.{arith}
 use lib.ListN.{length, drop}
 use borrow.Author.Tests.{not-true, not-false}
 use borrow.Author.Needs.{needs}
-use Rattle.rules.specs.Opening.{openedFrame}
+use Rattle.rules.specs.Header.{headerOf}
+use Rattle.rules.specs.Mode.{added}
+use Rattle.rules.specs.Answers.{noneApplies}
+use Rattle.rules.specs.Opening.{openedFrame, earlierTests, Openable}
 use Rattle.rules.specs.declared.Receiver.{Receiver}
-use Rattle.rules.proofs.Fields.{header-range, priority-below}
-use Rattle.ccmp.proofs.Answering.{open-refused, Openable, openable, open-wrong, open-gives}
+use Rattle.rules.proofs.Passing.{open-passes}
+use Rattle.rules.proofs.Fields.{priority-below}
+use Rattle.ccmp.proofs.Headers.{Fields, fields-of}
+use Rattle.ccmp.proofs.Verdicts.{passes}
+use Rattle.ccmp.proofs.Answering.{open-refused, open-wrong, open-gives}
 use Rattle.ccmp.proofs.opening.open.Statement.{statement}
 use Rattle.ccmp.proofs.opening.open.Tie as tie
 
-abbrev R : tie.After-open-refusal → Receiver
+abbrev R : tie.After-open-tests → Receiver
 R c = c .before .before .before .args .r
 
-abbrev F : tie.After-open-refusal → List ℕ
+abbrev F : tie.After-open-tests → List ℕ
 F c = c .before .before .before .args .frame .now
 
-abbrev O : tie.After-open-refusal → List ℕ
+abbrev O : tie.After-open-tests → List ℕ
 O c = c .before .before .before .args .out .now
 
-passes :
-    (c : tie.Else1)
-    → let d = c .before in Openable (R d) (F d) (O d) (d .open-refusal .result) (d .open-refusal .ensures) (c .if1 .left)
-passes c = openable _ _ _ _ _ _
+abbrev tested : tie.After-header → tie.After-open-tests
+tested c = c .before .before
 
-returns : tie.Need-returns
-returns c =
-    let c₄ = c .before in
-    let d = c₄ .before in
-    open-refused (R d) (F d) (O d) (d .open-refusal .result) (d .open-refusal .ensures) _ (c₄ .if1 .taken) (c .after-refusal .ensures)
+passed : (c : tie.After-header) → let t = tested c in (c .header .given .0 .0 ≡ headerOf (F t)) × (noneApplies (earlierTests (R t) (F t) (length (O t))) ≡ true)
+passed c =
+    let t = tested c in
+    passes (earlierTests (R t) (F t) (length (O t))) (headerOf (F t)) _ (sym (c .header .given .1) ∙ t .open-tests .ensures)
 
-header-length-requires : tie.Need-header-length-requires
-header-length-requires c κs = omega (arith, passes c .long)
+fields : (c : tie.After-header) → Fields (F (tested c)) (c .header .given .0 .0)
+fields c = fields-of (F (tested c)) _ (passed c .0)
 
-priority-of-requires : tie.Need-priority-of-requires
-priority-of-requires c κs = (c .header-length .ensures, omega (arith, c .header-length .ensures, passes (c .before) .whole))
+openable : (c : tie.After-header) → let t = tested c in Openable (R t) (F t) (length (O t))
+openable c = let t = tested c in open-passes (R t) (F t) (length (O t)) (passed c .1)
 
-number-at-requires : tie.Need-number-at-requires
-number-at-requires c κs =
-    let h = c .before .header-length .ensures in
-    (h, omega (arith, h, passes (c .before .before) .body))
-
-put-opened-requires : tie.Need-put-opened-requires
-put-opened-requires c κs =
-    let c₇ = c .before in
-    let c₆ = c₇ .before in
-    let c₅ = c₆ .before in
-    let c₄ = c₅ .before in
-    let q = passes c₄ in
-    let h = c₅ .header-length .ensures in
-    let range = header-range (F (c₄ .before)) in
-    ((h, c₆ .priority-of .ensures, c₇ .number-at .ensures), (omega (arith, q .body), omega (arith, q .body), omega (arith, q .enough)))
+-- what is in the output, where b says whether the code is right
+abbrev outcome : tie.After-open-tests → Bool → List ℕ
+outcome t b = cond b (openedFrame (R t) (F t) ++ drop (length (F t) - added) (O t)) (O t)
 
 returns-2 : tie.Need-returns-2
 returns-2 c =
-    let c₁₂ = c .before in
-    let c₉ = c₁₂ .before .before .before in
-    let c₄ = c₉ .before .before .before .before .before in
-    let d = c₄ .before in
-    let no = not-true _ (c₁₂ .if2 .taken) in
-    let found = sym (c₉ .put-opened .ensures .0) ∙ no in
-    open-wrong (R d) (F d) (O d) (d .open-refusal .result) (d .open-refusal .ensures) (c₄ .if1 .left) _ _ (not-false _ found) (c .after-refusal2 .ensures)
-    (c₉ .put-opened .ensures .1 ∙ ap (λ b. cond b (openedFrame (R d) (F d) ++ drop (length (F d) - 16) (O d)) (O d)) no)
+    let told = c .before .before in
+    let t = told .before .before in
+    open-refused (R t) (F t) (O t) (headerOf (F t)) _ _ (sym (told .refusal .given .1) ∙ t .open-tests .ensures) (c .after-refusal .ensures)
+
+number-at-requires : tie.Need-number-at-requires
+number-at-requires c κs =
+    let h = c .before in
+    let q = openable h in
+    (fields h .length-is, omega (arith, fields h .length-is, q .least, q .whole))
+
+put-opened-requires : tie.Need-put-opened-requires
+put-opened-requires c κs =
+    let read = c .before in
+    let h = read .before .before in
+    (passed h .0, read .number-at .ensures, openable h)
+
+returns : tie.Need-returns
+returns c =
+    let then = c .before in
+    let put = then .before .before .before in
+    let h = put .before .before .before .before in
+    let t = tested h in
+    let no = not-true _ (then .if1 .taken) in
+    open-wrong (R t) (F t) (O t) (passed h .1) _ _ (not-false _ (sym (put .put-opened .ensures .0) ∙ no)) (c .after-refusal2 .ensures)
+    (put .put-opened .ensures .1 ∙ ap (outcome t) no)
 
 after-opening-requires : tie.Need-after-opening-requires
 after-opening-requires c κs =
-    let c₆ = c .before .before .before .before .before .before in
-    omega (arith, priority-below (F (c₆ .before .before .before)), c₆ .priority-of .ensures)
+    let h = c .before .before .before .before .before .before .before in
+    omega (arith, fields h .priority-is, priority-below (F (tested h)))
 
-sub-t18 : tie.Need-sub-t18
-sub-t18 c = omega (arith, passes (c .before .before .before .before .before .before .before .before .before) .long)
+sub-length : tie.Need-sub-t20
+sub-length c =
+    let h = c .before .before .before .before .before .before .before .before in
+    let q = openable h in
+    omega (arith, q .least, q .whole)
 
 returns-3 : tie.Need-returns-3
 returns-3 c =
-    let c₁₂ = c .before in
-    let c₉ = c₁₂ .before .before .before in
-    let c₇ = c₉ .before .before in
-    let c₆ = c₇ .before in
-    let c₄ = c₆ .before .before in
-    let d = c₄ .before in
-    let yes = not-false _ (c₁₂ .if2 .left) in
-    let found = sym (c₉ .put-opened .ensures .0) ∙ yes in
-    open-gives (R d) (F d) (O d) (d .open-refusal .result) (d .open-refusal .ensures) (c₄ .if1 .left) _ _ _ _ (not-true _ found) (c₇ .number-at .ensures) (c₆ .priority-of .ensures) (c .after-opening .ensures)
-    (c₉ .put-opened .ensures .1 ∙ ap (λ b. cond b (openedFrame (R d) (F d) ++ drop (length (F d) - 16) (O d)) (O d)) yes)
+    let else = c .before in
+    let put = else .before .before .before in
+    let read = put .before .before in
+    let h = read .before .before in
+    let t = tested h in
+    let yes = not-false _ (else .if1 .left) in
+    open-gives (R t) (F t) (O t) (passed h .1) _ _ _ _ (not-true _ (sym (put .put-opened .ensures .0) ∙ yes)) (read .number-at .ensures)
+    (fields h .priority-is) (c .after-opening .ensures) (put .put-opened .ensures .1 ∙ ap (outcome t) yes)
 
 pub open-spec : {M : Type 1} → statement M
 open-spec =
     tie.close
     (tie.spec
     (λ c κs. search needs)
+    (λ c. search needs)
     (λ c κs. search needs)
-    returns
-    header-length-requires
-    priority-of-requires
+    (λ c. search needs)
     number-at-requires
     put-opened-requires
     (λ c κs. search needs)
     (λ c. search needs)
-    returns-2
+    returns
     after-opening-requires
-    sub-t18
+    sub-length
+    returns-2
     (λ c. search needs)
     returns-3)
