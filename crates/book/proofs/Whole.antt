@@ -1,11 +1,11 @@
 -- However a text comes in pieces, the output is that to the whole: the line that has not ended goes on in the next piece.
 use mathlib.Core.Path.{_≡_, refl, sym, ap, ap₂, _∙_}
 use mathlib.Core.List.{List, [], _∷_, _++_, append-assoc, append-nil}
-use Prim.Native.Nat.{ℕ, suc, _≤_}
+use Prim.Native.Nat.{ℕ, _≤_}
 use native.Mathlib.Omega.{arith}
-use lib.ListN.{length, take}
+use lib.ListN.{length, length-take}
 use lib.Seq.{take-take, take-all}
-use Rattle.book.specs.Limits.{mostKept, mostLine}
+use Rattle.book.specs.Limits.{mostKept}
 use Rattle.book.specs.declared.Book.{Book}
 use Rattle.book.specs.Text.{lineFeed, prefix, parts, allButLast, lastOf, unended, lines}
 use Rattle.book.specs.Book.{newBook, bookSays, bookNext}
@@ -106,8 +106,8 @@ line-feed b (x ∷ p) h = ap (λ (l : List ℕ). says b ((x ∷ l) ∷ [])) (app
 last-cut : (b : Book) (p q : List ℕ) → cut p ≡ cut q → says b (unended p) ≡ says b (unended q)
 unfolding says
 last-cut b [] [] e = refl
-last-cut b [] (y ∷ q) e = absurd (let z : _≡_ {A = ℕ} 0 (suc (length (take mostLine q))) = ap length e in omega arith)
-last-cut b (x ∷ p) [] e = absurd (let z : _≡_ {A = ℕ} (suc (length (take mostLine p))) 0 = ap length e in omega arith)
+last-cut b [] (y ∷ q) e = absurd (omega (arith, ap length e, length-take mostKept (y ∷ q)))
+last-cut b (x ∷ p) [] e = absurd (omega (arith, ap length e, length-take mostKept (x ∷ p)))
 last-cut b (x ∷ p) (y ∷ q) e = ap (λ (l : List ℕ). l ++ []) (same-says b (x ∷ p) (y ∷ q) e)
 
 from-any : (ts : List (List ℕ)) (b : Book) (p q : List ℕ) → cut p ≡ cut q → fedOutput b p ts ≡ says b (ended q (joined ts) ++ unended (left q (joined ts)))
