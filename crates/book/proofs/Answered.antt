@@ -6,6 +6,7 @@ use Prim.Native.Nat.{ℕ, _+_, _≤_}
 use native.Mathlib.Nat.{add-zero}
 use native.Mathlib.Omega.{arith}
 use lib.ListN.{length, take, length-replicate, take-append-drop}
+use Rattle.rules.specs.Limits.{added}
 use Rattle.rules.specs.Records.{freshSender, freshReceiver, senderNext, receiverNext}
 use Rattle.rules.specs.Answers.{told, answerNumber}
 use Rattle.rules.specs.Sealing.{sealedFrame, sealAnswer, sealOutput}
@@ -26,9 +27,9 @@ use Rattle.book.specs.Put.{put}
 use Rattle.book.specs.Hex.{hexOf}
 use Rattle.book.specs.Decimal.{decimal}
 use Rattle.book.specs.Text.{tab, lineFeed}
-use Rattle.book.specs.Line.{fields, isKeyLine, asked, Asked, malformed, sealing, opening}
+use Rattle.book.specs.Line.{fields, sealWord, openWord, isKeyLine, asked, Asked, malformed, sealing, opening}
 use Rattle.book.specs.Book.{lineNumber, roomFor, shown, answerLine, badLine, sealLine, openLine, answerTo, afterAsked, begun, saysAt, nextAt, bookSays, bookNext}
-use Rattle.book.specs.Handed.{Given, answerText, octetsWritten}
+use Rattle.book.specs.Handed.{Given, tabbed, answerText, octetsWritten}
 
 pub put-nothing : (at : ℕ) (o : List ℕ) → put at [] o ≡ o
 put-nothing at o = rw (add-zero at) (take-append-drop at o)
@@ -80,9 +81,9 @@ module _ (f room : List ℕ) where
       go (Done n p k) e = let d = open-done r f room n p k e in omega arith
       go (Refused a) e = omega arith
 
-  module _ (fits : length f + 16 ≤ length room) where
-    enough : length f + 16 ≤ length (roomFor f)
-    enough = omega (arith, length-replicate {A = ℕ} (length f + 16) 0)
+  module _ (fits : length f + added ≤ length room) where
+    enough : length f + added ≤ length (roomFor f)
+    enough = omega (arith, length-replicate {A = ℕ} (length f + added) 0)
 
     pub seals-alike : (s : Sender) → sealAnswer s f room ≡ sealAnswer s f (roomFor f)
     seals-alike s = seal-room f room (roomFor f) s fits enough
@@ -92,16 +93,16 @@ module _ (f room : List ℕ) where
 
     -- the line that sealing writes, and the one that opening writes
     pub seal-line : (n : ℕ) (s : Sender) (a : Answer) (result : List ℕ) → told a ≡ told (sealAnswer s f room) → result ≡ sealOutput s f room
-        → answerText n (9 ∷ 115 ∷ 101 ∷ 97 ∷ 108 ∷ 9 ∷ []) a result ≡ sealLine n s f
+        → answerText n (tabbed sealWord) a result ≡ sealLine n s f
     unfolding sealLine answerLine
     seal-line n s a result t o =
-        line-alike (sealAnswer s f) (sealOutput s f) (λ m. sealedFrame s m f) (written-is s f) room (roomFor f) (seals-alike s) n (9 ∷ 115 ∷ 101 ∷ 97 ∷ 108 ∷ 9 ∷ []) a result t o
+        line-alike (sealAnswer s f) (sealOutput s f) (λ m. sealedFrame s m f) (written-is s f) room (roomFor f) (seals-alike s) n (tabbed sealWord) a result t o
 
     pub open-line : (n : ℕ) (r : Receiver) (a : Answer) (result : List ℕ) → told a ≡ told (openAnswer r f room) → result ≡ openOutput r f room
-        → answerText n (9 ∷ 111 ∷ 112 ∷ 101 ∷ 110 ∷ 9 ∷ []) a result ≡ openLine n r f
+        → answerText n (tabbed openWord) a result ≡ openLine n r f
     unfolding openLine answerLine
     open-line n r a result t o =
-        line-alike (openAnswer r f) (openOutput r f) (λ m. openedFrame r f) (opened-is r f) room (roomFor f) (opens-alike r) n (9 ∷ 111 ∷ 112 ∷ 101 ∷ 110 ∷ 9 ∷ []) a result t o
+        line-alike (openAnswer r f) (openOutput r f) (λ m. openedFrame r f) (opened-is r f) room (roomFor f) (opens-alike r) n (tabbed openWord) a result t o
 
 -- what a line leaves: the book after it, and its answer at a place of the room
 abbrev pub Left : Book → List ℕ → ℕ → List ℕ → Book → ℕ → List ℕ → Type 0

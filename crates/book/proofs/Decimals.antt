@@ -1,4 +1,4 @@
--- A number's decimal digits: those of its tenth and one more, from 1 to 20 of them.
+-- A number's decimal digits: those of its tenth and one more, from 1 to mostDigits of them.
 use mathlib.Core.Path.{_≡_, ap}
 use mathlib.Core.Bool.{Bool, true, false, cond}
 use mathlib.Core.List.{List, [], _∷_, _++_}
@@ -7,6 +7,7 @@ use native.Mathlib.Omega.{arith}
 use borrow.Author.Tests.{lt-ltb, le-ltb}
 use lib.Dec.{ltb}
 use lib.ListN.{length, length-append}
+use Rattle.book.specs.Limits.{mostDigits}
 use Rattle.book.specs.Decimal.{digitsOf, decimal}
 
 length-either : (b : Bool) (x y : ℕ) (t : List ℕ)
@@ -19,9 +20,12 @@ unfolding digitsOf
 length-most zero n = omega arith
 length-most (suc k) n = omega (arith, length-either (ltb n 10) (48 + n) (48 + n % 10) (digitsOf k (n / 10)) .1, length-most k (n / 10))
 
-pub length-decimal : (n : ℕ) → (1 ≤ length (decimal n)) × (length (decimal n) ≤ 20)
+length-least : (k n : ℕ) → 1 ≤ length (digitsOf (suc k) n)
 unfolding digitsOf
-length-decimal n = (length-either (ltb n 10) (48 + n) (48 + n % 10) (digitsOf 19 (n / 10)) .0, length-most 20 n)
+length-least k n = length-either (ltb n 10) (48 + n) (48 + n % 10) (digitsOf k (n / 10)) .0
+
+pub length-decimal : (n : ℕ) → (1 ≤ length (decimal n)) × (length (decimal n) ≤ mostDigits)
+length-decimal n = (length-least _ n, length-most mostDigits n)
 
 -- more digits than a number has change nothing
 enough : (k n : ℕ) → n < 10 ^ suc k → digitsOf (suc k) n ≡ digitsOf (suc (suc k)) n
@@ -33,6 +37,9 @@ pub decimal-small : (n : ℕ) → n < 10 → decimal n ≡ (48 + n) ∷ []
 unfolding digitsOf
 decimal-small n h = rw (lt-ltb n 10 h)
 
-pub decimal-more : (n : ℕ) → 10 ≤ n → n < 2 ^ 64 → decimal n ≡ decimal (n / 10) ++ ((48 + n % 10) ∷ [])
+one-more : (k n : ℕ) → 10 ≤ n → n / 10 < 10 ^ suc k → digitsOf (suc (suc k)) n ≡ digitsOf (suc (suc k)) (n / 10) ++ ((48 + n % 10) ∷ [])
 unfolding digitsOf
-decimal-more n h l = rw (le-ltb n 10 h) (ap (λ t. t ++ ((48 + n % 10) ∷ [])) (enough 18 (n / 10) (omega arith)))
+one-more k n h l = rw (le-ltb n 10 h) (ap (λ t. t ++ ((48 + n % 10) ∷ [])) (enough k (n / 10) l))
+
+pub decimal-more : (n : ℕ) → 10 ≤ n → n < 2 ^ 64 → decimal n ≡ decimal (n / 10) ++ ((48 + n % 10) ∷ [])
+decimal-more n h l = one-more _ n h (omega arith)

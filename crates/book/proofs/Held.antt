@@ -77,7 +77,7 @@ kept-cut line x kept n m z r l h w end line′ e p =
     either (inl e) f = inl e
     either (inr e) f = inr (omega arith)
 
--- a length of 4,801 or more keeps all of a line
+-- a length of mostKept or more keeps all of a line
 pub kept-held : (line : List ℕ) (n k : ℕ) → length line ≡ mostKept → (n ≤ mostKept → k ≡ n) × (mostKept ≤ n → k ≡ mostKept) → take k line ≡ take n line
 kept-held line n k z h =
     ⊎-elim

@@ -14,13 +14,14 @@ use Rattle.octets.specs.Octets.{same}
 use Rattle.octets.specs.Options.{contents, isNone}
 use Rattle.octets.proofs.Booleans.{both}
 use Rattle.octets.proofs.Same.{same-is}
+use Rattle.rules.specs.Limits.{mostKeyId, keyOctets, addressOctets}
 use Rattle.bytes.specs.Bytes.{slice, indexOf}
 use Rattle.book.specs.Limits.{mostLine}
 use Rattle.book.specs.declared.line.Keys.{Keys}
 use Rattle.book.specs.Hex.{digit, octetsOf}
 use Rattle.book.specs.Text.{tab, parts}
 use Rattle.book.specs.Line.{fields, field, keyWord, isHex, isKeyId, isKeyLine}
-use Rattle.book.specs.Handed.{KeyTabs, Given}
+use Rattle.book.specs.Handed.{keyAt, keyIdAt, ownAt, peerAt, keyLineOctets, wordPart, keyPart, keyIdPart, ownPart, peerPart, KeyTabs, Given}
 use Rattle.book.proofs.Hexadecimals.{length-digits}
 use Rattle.book.proofs.Held.{le-or}
 use Rattle.book.proofs.Forms.{one-field}
@@ -30,10 +31,10 @@ use Rattle.book.proofs.Parts.{whole-slice, parts-some, parts-found, par
 pub record KeyForm (fs : List (List ℕ)) : Type 0 where
   pub five : length fs ≡ 5
   pub word : same (field fs 0) keyWord ≡ true
-  pub key : isHex 16 (field fs 1) ≡ true
+  pub key : isHex keyOctets (field fs 1) ≡ true
   pub id : isKeyId (field fs 2) ≡ true
-  pub own : isHex 6 (field fs 3) ≡ true
-  pub peer : isHex 6 (field fs 4) ≡ true
+  pub own : isHex addressOctets (field fs 3) ≡ true
+  pub peer : isHex addressOctets (field fs 4) ≡ true
 
 pub key-form : (fs : List (List ℕ)) → isKeyLine fs ≡ true → KeyForm fs
 unfolding isKeyLine
@@ -105,11 +106,11 @@ five-parts (a ∷ b ∷ c ∷ d ∷ e ∷ f ∷ fs) h = absurd (omega arith)
 
 -- where the tabs of a good line 1 stand
 pub record Places (line : List ℕ) : Type 0 where
-  pub size : length line ≡ 64
-  pub tab-0 : indexOf tab line ≡ 3
-  pub tab-1 : indexOf tab (drop 4 line) ≡ 32
-  pub tab-2 : indexOf tab (drop 37 line) ≡ 1
-  pub tab-3 : indexOf tab (drop 39 line) ≡ 12
+  pub size : length line ≡ keyLineOctets
+  pub tab-0 : indexOf tab line ≡ length keyWord
+  pub tab-1 : indexOf tab (drop keyAt line) ≡ 2 * keyOctets
+  pub tab-2 : indexOf tab (drop keyIdAt line) ≡ 1
+  pub tab-3 : indexOf tab (drop ownAt line) ≡ 2 * addressOctets
 
 after-tab : (s w q : List ℕ) (qs : List (List ℕ)) (i n j : ℕ) → length w ≡ n → i + suc n ≡ j → parts tab (drop i s) ≡ w ∷ q ∷ qs
     → (indexOf tab (drop i s) ≡ n) × (parts tab (drop j s) ≡ q ∷ qs)
@@ -130,13 +131,13 @@ places-of line e =
     let f = key-form (fields line) e in
     let g = fields line in
     let is = in-parts line (f .five) ∙ five-parts g (f .five) in
-    let p₀ = after-tab line _ _ _ 0 3 4 (ap length (same-is (field g 0) keyWord (f .word))) (omega arith) is in
-    let p₁ = after-tab line _ _ _ 4 32 37 (hex-size 16 (field g 1) (f .key)) (omega arith) (p₀ .1) in
-    let p₂ = after-tab line _ _ _ 37 1 39 (id-size (field g 2) (f .id)) (omega arith) (p₁ .1) in
-    let p₃ = after-tab line _ _ _ 39 12 52 (hex-size 6 (field g 3) (f .own)) (omega arith) (p₂ .1) in
-    let end = ap length (last-part (drop 52 line) (field g 4) (p₃ .1)) in
+    let p₀ = after-tab line _ _ _ 0 (length keyWord) keyAt (ap length (same-is (field g 0) keyWord (f .word))) (omega arith) is in
+    let p₁ = after-tab line _ _ _ keyAt (2 * keyOctets) keyIdAt (hex-size keyOctets (field g 1) (f .key)) (omega arith) (p₀ .1) in
+    let p₂ = after-tab line _ _ _ keyIdAt 1 ownAt (id-size (field g 2) (f .id)) (omega arith) (p₁ .1) in
+    let p₃ = after-tab line _ _ _ ownAt (2 * addressOctets) peerAt (hex-size addressOctets (field g 3) (f .own)) (omega arith) (p₂ .1) in
+    let end = ap length (last-part (drop peerAt line) (field g 4) (p₃ .1)) in
     record {
-      size = omega (arith, length-drop 52 line, hex-size 6 (field g 4) (f .peer));
+      size = omega (arith, length-drop peerAt line, hex-size addressOctets (field g 4) (f .peer));
       tab-0 = p₀ .0;
       tab-1 = p₁ .0;
       tab-2 = p₂ .0;
@@ -157,19 +158,19 @@ tabs-of line p =
       size = p .size;
       placed =
           rw (le-ltb mostLine (length line) (omega (arith, p .size)))
-          (part-to line 0 3 4 (p .tab-0) (omega arith) (omega (arith, p .size))
-          ∙ ap (λ (r : List (List ℕ)). take 3 line ∷ r)
-          (part-to line 4 32 37 (p .tab-1) (omega arith) (omega (arith, p .size))
-          ∙ ap (λ (r : List (List ℕ)). take 32 (drop 4 line) ∷ r)
-          (part-to line 37 1 39 (p .tab-2) (omega arith) (omega (arith, p .size))
-          ∙ ap (λ (r : List (List ℕ)). take 1 (drop 37 line) ∷ r) (part-to line 39 12 52 (p .tab-3) (omega arith) (omega (arith, p .size))))));
+          (part-to line 0 (length keyWord) keyAt (p .tab-0) (omega arith) (omega (arith, p .size))
+          ∙ ap (λ (r : List (List ℕ)). wordPart line ∷ r)
+          (part-to line keyAt (2 * keyOctets) keyIdAt (p .tab-1) (omega arith) (omega (arith, p .size))
+          ∙ ap (λ (r : List (List ℕ)). keyPart line ∷ r)
+          (part-to line keyIdAt 1 ownAt (p .tab-2) (omega arith) (omega (arith, p .size))
+          ∙ ap (λ (r : List (List ℕ)). keyIdPart line ∷ r) (part-to line ownAt (2 * addressOctets) peerAt (p .tab-3) (omega arith) (omega (arith, p .size))))));
     }
 
 pub never : {A : Type 0} → false ≡ true → A
 never e = absurd (let y : _≡_ {A = ℕ} 0 1 = cc in omega arith)
 
 -- where a search from i finds a tab
-module _ (line : List ℕ) (size : length line ≡ 64) (i n r : ℕ) (found : r ≡ i + indexOf tab (slice i 64 line)) where
+module _ (line : List ℕ) (size : length line ≡ keyLineOctets) (i n r : ℕ) (found : r ≡ i + indexOf tab (slice i keyLineOctets line)) where
   from : r ≡ i + indexOf tab (drop i line)
   from = found ∙ ap (λ (m : ℕ). i + indexOf tab (slice i m line)) (sym size) ∙ ap (λ (s : List ℕ). i + indexOf tab s) (whole-slice line i)
 
@@ -203,63 +204,63 @@ read-some s e = go (octetsOf s) e
 
 module _ (line : List ℕ) (t : KeyTabs line) where
   abbrev fs : List (List ℕ)
-  fs = take 3 line ∷ take 32 (drop 4 line) ∷ take 1 (drop 37 line) ∷ take 12 (drop 39 line) ∷ parts tab (drop 52 line)
+  fs = wordPart line ∷ keyPart line ∷ keyIdPart line ∷ ownPart line ∷ parts tab (drop peerAt line)
 
   form : isKeyLine (fields line) ≡ true → KeyForm fs
   form e = key-form fs (ap isKeyLine (sym (t .placed)) ∙ e)
 
-  peer-all : take 12 (drop 52 line) ≡ drop 52 line
-  peer-all = take-all 12 (drop 52 line) (omega (arith, length-drop 52 line, t .size))
+  peer-all : peerPart line ≡ drop peerAt line
+  peer-all = take-all (2 * addressOctets) (drop peerAt line) (omega (arith, length-drop peerAt line, t .size))
 
-  id-is : take 1 (drop 37 line) ≡ getD line 37 0 ∷ []
-  id-is = ap (take 1) (drop-cons line 37 0 (omega (arith, t .size)))
+  id-is : keyIdPart line ≡ getD line keyIdAt 0 ∷ []
+  id-is = ap (take 1) (drop-cons line keyIdAt 0 (omega (arith, t .size)))
 
-  pub wrong-word : same (take 3 line) keyWord ≡ false → isKeyLine (fields line) ≡ true → ⊥
+  pub wrong-word : same (wordPart line) keyWord ≡ false → isKeyLine (fields line) ≡ true → ⊥
   wrong-word b e = never (sym b ∙ form e .word)
 
-  pub wrong-key : not (isNone (octetsOf (take 32 (drop 4 line)))) ≡ false → isKeyLine (fields line) ≡ true → ⊥
-  wrong-key b e = never (sym b ∙ hex-read 16 (field fs 1) (form e .key))
+  pub wrong-key : not (isNone (octetsOf (keyPart line))) ≡ false → isKeyLine (fields line) ≡ true → ⊥
+  wrong-key b e = never (sym b ∙ hex-read keyOctets (field fs 1) (form e .key))
 
-  pub wrong-id : 3 < digit (getD line 37 0) → isKeyLine (fields line) ≡ true → ⊥
+  pub wrong-id : mostKeyId < digit (getD line keyIdAt 0) → isKeyLine (fields line) ≡ true → ⊥
   unfolding isKeyId
-  wrong-id l e = let z = leb-true (digit (getD line 37 0)) 3 (ap isKeyId (sym id-is) ∙ form e .id) in omega arith
+  wrong-id l e = let z = leb-true (digit (getD line keyIdAt 0)) mostKeyId (ap isKeyId (sym id-is) ∙ form e .id) in omega arith
 
-  pub wrong-own : not (isNone (octetsOf (take 12 (drop 39 line)))) ≡ false → isKeyLine (fields line) ≡ true → ⊥
-  wrong-own b e = never (sym b ∙ hex-read 6 (field fs 3) (form e .own))
+  pub wrong-own : not (isNone (octetsOf (ownPart line))) ≡ false → isKeyLine (fields line) ≡ true → ⊥
+  wrong-own b e = never (sym b ∙ hex-read addressOctets (field fs 3) (form e .own))
 
-  pub wrong-peer : not (isNone (octetsOf (take 12 (drop 52 line)))) ≡ false → isKeyLine (fields line) ≡ true → ⊥
+  pub wrong-peer : not (isNone (octetsOf (peerPart line))) ≡ false → isKeyLine (fields line) ≡ true → ⊥
   wrong-peer b e =
-      let q = parts-some tab (drop 52 line) in
+      let q = parts-some tab (drop peerAt line) in
       let f = form e in
       let one : q .1 .0 ≡ [] = no-more (q .1 .0) (omega (arith, ap length (q .1 .1), f .five)) in
-      let is : field fs 4 ≡ drop 52 line = ap (λ (r : List (List ℕ)). field r 0) (q .1 .1) ∙ last-part (drop 52 line) (q .0) (q .1 .1 ∙ ap (λ (r : List (List ℕ)). q .0 ∷ r) one) in
-      never (sym b ∙ ap (λ (s : List ℕ). not (isNone (octetsOf s))) (peer-all ∙ sym is) ∙ hex-read 6 (field fs 4) (f .peer))
+      let is : field fs 4 ≡ drop peerAt line = ap (λ (r : List (List ℕ)). field r 0) (q .1 .1) ∙ last-part (drop peerAt line) (q .0) (q .1 .1 ∙ ap (λ (r : List (List ℕ)). q .0 ∷ r) one) in
+      never (sym b ∙ ap (λ (s : List ℕ). not (isNone (octetsOf s))) (peer-all ∙ sym is) ∙ hex-read addressOctets (field fs 4) (f .peer))
     where
       no-more : (r : List (List ℕ)) → length r ≡ 0 → r ≡ []
       no-more [] h = refl
       no-more (x ∷ r) h = absurd (omega arith)
 
   -- a good one
-  pub good-line : (k : Keys) → k .good ≡ true → same (take 3 line) keyWord ≡ true
-      → not (isNone (octetsOf (take 32 (drop 4 line)))) ≡ true → k .key ≡ contents (octetsOf (take 32 (drop 4 line)))
-      → k .«key_id» ≡ digit (getD line 37 0) → digit (getD line 37 0) ≤ 3
-      → not (isNone (octetsOf (take 12 (drop 39 line)))) ≡ true → k .own ≡ contents (octetsOf (take 12 (drop 39 line)))
-      → not (isNone (octetsOf (take 12 (drop 52 line)))) ≡ true → k .peer ≡ contents (octetsOf (take 12 (drop 52 line)))
+  pub good-line : (k : Keys) → k .good ≡ true → same (wordPart line) keyWord ≡ true
+      → not (isNone (octetsOf (keyPart line))) ≡ true → k .key ≡ contents (octetsOf (keyPart line))
+      → k .«key_id» ≡ digit (getD line keyIdAt 0) → digit (getD line keyIdAt 0) ≤ mostKeyId
+      → not (isNone (octetsOf (ownPart line))) ≡ true → k .own ≡ contents (octetsOf (ownPart line))
+      → not (isNone (octetsOf (peerPart line))) ≡ true → k .peer ≡ contents (octetsOf (peerPart line))
       → (k .good ≡ isKeyLine (fields line)) × (k .good ≡ true → Given (fields line) k)
   unfolding isKeyId
   good-line k g w kr ke ie il or oe pr pe =
       let pr′ = ap (λ (s : List ℕ). not (isNone (octetsOf s))) (sym peer-all) ∙ pr in
-      let one = one-field (drop 52 line) _ (read-some (drop 52 line) pr′) in
-      let is : fields line ≡ take 3 line ∷ take 32 (drop 4 line) ∷ take 1 (drop 37 line) ∷ take 12 (drop 39 line) ∷ drop 52 line ∷ []
-      = t .placed ∙ ap (λ (r : List (List ℕ)). take 3 line ∷ take 32 (drop 4 line) ∷ take 1 (drop 37 line) ∷ take 12 (drop 39 line) ∷ r) one in
+      let one = one-field (drop peerAt line) _ (read-some (drop peerAt line) pr′) in
+      let is : fields line ≡ wordPart line ∷ keyPart line ∷ keyIdPart line ∷ ownPart line ∷ drop peerAt line ∷ []
+      = t .placed ∙ ap (λ (r : List (List ℕ)). wordPart line ∷ keyPart line ∷ keyIdPart line ∷ ownPart line ∷ r) one in
       let ends = t .size in (
         g ∙ key-line (fields line) (rw is (record {
           five = refl;
           word = w;
-          key = is-hex 16 (take 32 (drop 4 line)) (length-take-le 32 (drop 4 line) (omega (arith, length-drop 4 line))) kr;
-          id = ap isKeyId id-is ∙ le-leb (digit (getD line 37 0)) 3 il;
-          own = is-hex 6 (take 12 (drop 39 line)) (length-take-le 12 (drop 39 line) (omega (arith, length-drop 39 line))) or;
-          peer = is-hex 6 (drop 52 line) (length-drop 52 line ∙ omega arith) pr′;
+          key = is-hex keyOctets (keyPart line) (length-take-le (2 * keyOctets) (drop keyAt line) (omega (arith, length-drop keyAt line))) kr;
+          id = ap isKeyId id-is ∙ le-leb (digit (getD line keyIdAt 0)) mostKeyId il;
+          own = is-hex addressOctets (ownPart line) (length-take-le (2 * addressOctets) (drop ownAt line) (omega (arith, length-drop ownAt line))) or;
+          peer = is-hex addressOctets (drop peerAt line) (length-drop peerAt line ∙ omega arith) pr′;
         })),
         λ e. rw is (record {
           key-is = ke;

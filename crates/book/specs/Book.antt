@@ -37,14 +37,21 @@ turned b stage s r = record { lines = lineNumber b; stage = stage; sender = s; r
 abbrev pub roomFor : List ℕ → List ℕ
 roomFor frame = replicate (length frame + added) 0
 
+-- `bad`, and the `-` that stands for a result
+abbrev pub badWord : List ℕ
+badWord = 98 ∷ 97 ∷ 100 ∷ []
+
+abbrev pub noResult : List ℕ
+noResult = 45 ∷ []
+
 -- line number, `bad`
 unfoldable pub badLine : ℕ → List ℕ
-badLine n = lineOf (decimal n ∷ (98 ∷ 97 ∷ 100 ∷ []) ∷ [])
+badLine n = lineOf (decimal n ∷ badWord ∷ [])
 
 -- the result frame, or `-`
 abbrev pub shown : Answer → List ℕ → List ℕ
 shown (Done n p k) output = hexOf (take k output)
-shown (Refused a) output = 45 ∷ []
+shown (Refused a) output = noResult
 
 -- line number, word, answer number, result frame or `-`
 unfoldable pub answerLine : ℕ → List ℕ → Answer → List ℕ → List ℕ

@@ -2,9 +2,10 @@
 use mathlib.Core.Path.{_≡_}
 use mathlib.Core.List.{List, [], _∷_, _++_}
 use mathlib.Core.Option.{Option, none, some}
-use Prim.Native.Nat.{ℕ}
+use Prim.Native.Nat.{ℕ, _+_, _*_}
 use lib.ListN.{length, take, drop, getD}
 use Rattle.octets.specs.Options.{contents}
+use Rattle.rules.specs.Limits.{keyOctets, addressOctets}
 use Rattle.rules.specs.Answers.{answerNumber}
 use Rattle.rules.specs.declared.Answer.{Answer}
 use Rattle.rules.specs.declared.Answer.the-variants.{Done, Refused}
@@ -16,7 +17,7 @@ use Rattle.book.specs.declared.line.Request.the-variants.{Malformed, Sea
 use Rattle.book.specs.Decimal.{decimal}
 use Rattle.book.specs.Hex.{digit, octetsOf}
 use Rattle.book.specs.Text.{tab, lineFeed, parts}
-use Rattle.book.specs.Line.{fields, field, Asked, malformed, sealing, opening}
+use Rattle.book.specs.Line.{fields, field, keyWord, Asked, malformed, sealing, opening}
 use Rattle.book.specs.Book.{shown}
 
 -- what a reading into out found
@@ -41,10 +42,42 @@ frameIn Malformed = 0
 frameIn (Seal n) = n
 frameIn (Open n) = n
 
+-- where the fields of a good line 1 begin, each a tab after the one before it, and the octets of that line
+abbrev pub keyAt : ℕ
+keyAt = length keyWord + 1
+
+abbrev pub keyIdAt : ℕ
+keyIdAt = keyAt + 2 * keyOctets + 1
+
+abbrev pub ownAt : ℕ
+ownAt = keyIdAt + 1 + 1
+
+abbrev pub peerAt : ℕ
+peerAt = ownAt + 2 * addressOctets + 1
+
+abbrev pub keyLineOctets : ℕ
+keyLineOctets = peerAt + 2 * addressOctets
+
+-- those fields
+abbrev pub wordPart : List ℕ → List ℕ
+wordPart line = take (length keyWord) line
+
+abbrev pub keyPart : List ℕ → List ℕ
+keyPart line = take (2 * keyOctets) (drop keyAt line)
+
+abbrev pub keyIdPart : List ℕ → List ℕ
+keyIdPart line = take 1 (drop keyIdAt line)
+
+abbrev pub ownPart : List ℕ → List ℕ
+ownPart line = take (2 * addressOctets) (drop ownAt line)
+
+abbrev pub peerPart : List ℕ → List ℕ
+peerPart line = take (2 * addressOctets) (drop peerAt line)
+
 -- the fields of line 1, but for the last, by the places of its tabs
 pub record KeyTabs (line : List ℕ) : Type 0 where
-  pub size : length line ≡ 64
-  pub placed : fields line ≡ take 3 line ∷ take 32 (drop 4 line) ∷ take 1 (drop 37 line) ∷ take 12 (drop 39 line) ∷ parts tab (drop 52 line)
+  pub size : length line ≡ keyLineOctets
+  pub placed : fields line ≡ wordPart line ∷ keyPart line ∷ keyIdPart line ∷ ownPart line ∷ parts tab (drop peerAt line)
 
 -- what the fields of a good line 1 give
 pub record Given (fs : List (List ℕ)) (k : Keys) : Type 0 where
@@ -52,6 +85,10 @@ pub record Given (fs : List (List ℕ)) (k : Keys) : Type 0 where
   pub key-id-is : k .«key_id» ≡ digit (getD (field fs 2) 0 0)
   pub own-is : k .own ≡ contents (octetsOf (field fs 3))
   pub peer-is : k .peer ≡ contents (octetsOf (field fs 4))
+
+-- a word between tabs
+abbrev pub tabbed : List ℕ → List ℕ
+tabbed word = tab ∷ (word ++ (tab ∷ []))
 
 -- an answer's line, its word being between tabs
 abbrev pub answerText : ℕ → List ℕ → Answer → List ℕ → List ℕ

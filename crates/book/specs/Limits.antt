@@ -1,4 +1,4 @@
--- Document 01, "The frame book": the longest line, and what follows from it.
+-- Document 01, "The frame book": the longest line and what follows from it, and the sizes of a line's parts.
 use Prim.Native.Nat.{ℕ, _+_, _*_, _/_}
 use Rattle.rules.specs.Limits.{added}
 
@@ -17,6 +17,14 @@ mostFrame = mostLine / 2
 abbrev pub mostResult : ℕ
 mostResult = mostFrame + added
 
--- the octets of an answer at most: two numbers of 20 digits, a word between tabs, a tab, the result's digits and a line feed
+-- the digits of a number below 2^64 at most
+abbrev pub mostDigits : ℕ
+mostDigits = 20
+
+-- the octets of an answer's word, `seal` or `open`, between its tabs
+abbrev pub wordOctets : ℕ
+wordOctets = 6
+
+-- the octets of an answer at most: two numbers, a word between tabs, a tab, the result's digits and a line feed
 abbrev pub mostAnswer : ℕ
-mostAnswer = 20 + 6 + 20 + 1 + 2 * mostResult + 1
+mostAnswer = mostDigits + wordOctets + mostDigits + 1 + 2 * mostResult + 1

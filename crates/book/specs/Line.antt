@@ -7,7 +7,7 @@ use lib.Dec.{ltb, leb, eqb}
 use lib.ListN.{length, getD}
 use Rattle.octets.specs.Octets.{same}
 use Rattle.octets.specs.Options.{isNone}
-use Rattle.rules.specs.Limits.{mostKeyId}
+use Rattle.rules.specs.Limits.{mostKeyId, keyOctets, addressOctets}
 use Rattle.book.specs.Limits.{mostLine}
 use Rattle.book.specs.Hex.{digit, octetsOf}
 use Rattle.book.specs.Text.{tab, parts}
@@ -30,7 +30,7 @@ openWord = 111 ∷ 112 ∷ 101 ∷ 110 ∷ []
 unfoldable pub isHex : ℕ → List ℕ → Bool
 isHex n digits = eqb (length digits) (2 * n) && not (isNone (octetsOf digits))
 
--- one digit, at most 3
+-- one digit, a key ID
 unfoldable pub isKeyId : List ℕ → Bool
 isKeyId [] = false
 isKeyId (d ∷ []) = leb (digit d) mostKeyId
@@ -43,7 +43,7 @@ field fs i = getD fs i []
 unfoldable pub isKeyLine : List (List ℕ) → Bool
 isKeyLine fs =
     eqb (length fs) 5
-    && (same (field fs 0) keyWord && (isHex 16 (field fs 1) && (isKeyId (field fs 2) && (isHex 6 (field fs 3) && isHex 6 (field fs 4)))))
+    && (same (field fs 0) keyWord && (isHex keyOctets (field fs 1) && (isKeyId (field fs 2) && (isHex addressOctets (field fs 3) && isHex addressOctets (field fs 4)))))
 
 -- a later line: `seal` or `open`, then the frame
 pub data Asked : Type 0 where

@@ -1,6 +1,7 @@
 // A book's answer to a line.
 use crate::Book;
 use crate::Stage;
+use crate::decimal::MOST_DIGITS;
 use crate::decimal::put_decimal;
 use crate::hex::put_hex;
 use crate::line::MOST_LINE;
@@ -15,18 +16,23 @@ ghost use lib.ListN.{length};
 ghost use Rattle.rules.specs.Records.{senderNext, receiverNext};
 ghost use Rattle.rules.specs.Sealing.{sealAnswer};
 ghost use Rattle.rules.specs.Opening.{openAnswer};
-ghost use Rattle.book.specs.Limits.{mostAnswer, mostResult, mostFrame};
+ghost use Rattle.book.specs.Limits.{mostAnswer, mostResult, mostFrame, wordOctets};
 ghost use Rattle.book.specs.Put.{put};
 ghost use Rattle.book.specs.Line.{fields};
 ghost use Rattle.book.specs.Book.{roomFor, badLine, sealLine, openLine, begun, saysAt};
 ghost use Rattle.book.specs.Handed.{answerText, octetsWritten};
 
-// The octets of a line's frame at most, of its result, and of the answer.
+// The octets of a line's frame at most, of its result, to which sealing adds some, and of the answer: two numbers, a word
+// between tabs, a tab, the result's digits and a line feed.
 pub(crate) const MOST_FRAME: usize = MOST_LINE / 2;
 
-pub(crate) const MOST_RESULT: usize = MOST_FRAME + 16;
+const ADDED: usize = 16;
 
-pub const MOST_ANSWER: usize = 2 * MOST_RESULT + 48;
+pub(crate) const MOST_RESULT: usize = MOST_FRAME + ADDED;
+
+const WORD: usize = 6;
+
+pub const MOST_ANSWER: usize = MOST_DIGITS + WORD + MOST_DIGITS + 1 + 2 * MOST_RESULT + 1;
 
 // The sender, the receiver or the book after a line, and the place after what was written.
 pub struct SealTurn {
@@ -56,7 +62,7 @@ pub(crate) fn put_bad(n: u64, out: &mut [u8], at: usize) -> usize
 
 // A line number, a word between tabs, an answer's number, and the frame in the front of result or `-`.
 fn put_answer(n: u64, word: &[u8], a: Answer, result: &[u8], out: &mut [u8], at: usize) -> usize
-    requires { ⌜ (at + mostAnswer ≤ length (now out)) × (length (now word) ≡ 6) ⌝ }
+    requires { ⌜ (at + mostAnswer ≤ length (now out)) × (length (now word) ≡ wordOctets) ⌝ }
     requires { ⌜ (octetsWritten a ≤ length (now result)) × (length (now result) ≡ mostResult) ⌝ }
     ensures { λ r. ⌜ r ≡ at + length (answerText n (now (word .entry)) a (now (result .entry))) ⌝ }
     ensures { λ _. ⌜ now (out .exit) ≡ put at (answerText n (now (word .entry)) a (now (result .entry))) (now (out .entry)) ⌝ }

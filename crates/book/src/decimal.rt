@@ -2,8 +2,12 @@
 ghost use mathlib.Core.Path.{_≡_};
 ghost use Prim.Native.Nat.{_+_, _≤_};
 ghost use lib.ListN.{length};
+ghost use Rattle.book.specs.Limits.{mostDigits};
 ghost use Rattle.book.specs.Decimal.{decimal};
 ghost use Rattle.book.specs.Put.{put};
+
+// The digits of a u64 at most.
+pub(crate) const MOST_DIGITS: usize = 20;
 
 // How many digits n has.
 fn places(n: u64) -> usize
@@ -20,7 +24,7 @@ fn places(n: u64) -> usize
 
 // Writes n's digits into out from place at on, the last one first, and returns the place after them.
 pub(crate) fn put_decimal(n: u64, out: &mut [u8], at: usize) -> usize
-    requires { ⌜ at + 20 ≤ length (now out) ⌝ }
+    requires { ⌜ at + mostDigits ≤ length (now out) ⌝ }
     ensures { λ r. ⌜ r ≡ at + length (decimal n) ⌝ }
     ensures { λ _. ⌜ now (out .exit) ≡ put at (decimal n) (now (out .entry)) ⌝ }
 {

@@ -2,6 +2,7 @@
 use crate::hex::Read;
 use crate::hex::digit_of;
 use crate::hex::read_hex;
+use ccmp::MOST_KEY_ID;
 ghost use mathlib.Core.Path.{_≡_};
 ghost use mathlib.Core.Bool.{true, false, not};
 ghost use Prim.Native.Nat.{_*_, _≤_};
@@ -18,7 +19,29 @@ const TAB: u8 = 9;
 // The octets of a line without its line feed.
 pub(crate) const MOST_LINE: usize = 4800;
 
-const MOST_KEY_ID: u8 = 3;
+// The octets of a key and of an address.
+pub(crate) const KEY_OCTETS: usize = 16;
+
+pub(crate) const ADDRESS_OCTETS: usize = 6;
+
+// The fields of a good line 1, each after a tab: `key`, key, key ID, own address, peer address.
+const WORD_END: usize = 3;
+
+const KEY_AT: usize = WORD_END + 1;
+
+const KEY_END: usize = KEY_AT + 2 * KEY_OCTETS;
+
+const KEY_ID_AT: usize = KEY_END + 1;
+
+const KEY_ID_END: usize = KEY_ID_AT + 1;
+
+const OWN_AT: usize = KEY_ID_END + 1;
+
+const OWN_END: usize = OWN_AT + 2 * ADDRESS_OCTETS;
+
+const PEER_AT: usize = OWN_END + 1;
+
+const PEER_END: usize = PEER_AT + 2 * ADDRESS_OCTETS;
 
 // What a later line asks, the frame being so many octets.
 pub enum Request {
@@ -30,10 +53,10 @@ pub enum Request {
 // What a good line 1 gives; zeros where it is not good.
 pub struct Keys {
     pub good: bool,
-    pub key: [u8; 16],
+    pub key: [u8; KEY_OCTETS],
     pub key_id: u8,
-    pub own: [u8; 6],
-    pub peer: [u8; 6],
+    pub own: [u8; ADDRESS_OCTETS],
+    pub peer: [u8; ADDRESS_OCTETS],
 }
 
 // Whether a field is this word.
@@ -83,24 +106,24 @@ pub(crate) fn request_of(line: &[u8], frame: &mut [u8]) -> Request
     Request::Malformed
 }
 
-// Whether the tabs stand as in a good line 1: after 3, 32, 1 and 12 octets, and 12 more.
+// Whether the tabs stand as in a good line 1.
 fn is_parted(line: &[u8]) -> bool
     ensures { λ r. ⌜ (r ≡ true → KeyTabs (now (line .entry))) ⌝ }
     ensures { λ r. ⌜ (isKeyLine (fields (now (line .entry))) ≡ true → r ≡ true) ⌝ }
 {
-    if line.len() != 64 {
+    if line.len() != PEER_END {
         return false;
     }
-    if bytes::scan::find(line, 0, 64, TAB) != 3 {
+    if bytes::scan::find(line, 0, PEER_END, TAB) != WORD_END {
         return false;
     }
-    if bytes::scan::find(line, 4, 64, TAB) != 36 {
+    if bytes::scan::find(line, KEY_AT, PEER_END, TAB) != KEY_END {
         return false;
     }
-    if bytes::scan::find(line, 37, 64, TAB) != 38 {
+    if bytes::scan::find(line, KEY_ID_AT, PEER_END, TAB) != KEY_ID_END {
         return false;
     }
-    bytes::scan::find(line, 39, 64, TAB) == 51
+    bytes::scan::find(line, OWN_AT, PEER_END, TAB) == OWN_END
 }
 
 // Reads digits that are to fill all of out.
@@ -120,10 +143,10 @@ fn no_keys() -> Keys
 {
     Keys {
         good: false,
-        key: [0; 16],
+        key: [0; KEY_OCTETS],
         key_id: 0,
-        own: [0; 6],
-        peer: [0; 6],
+        own: [0; ADDRESS_OCTETS],
+        peer: [0; ADDRESS_OCTETS],
     }
 }
 
@@ -135,23 +158,23 @@ pub(crate) fn keys_of(line: &[u8]) -> Keys
     if !is_parted(line) {
         return no_keys();
     }
-    if !is_word(&line[0..3], b"key") {
+    if !is_word(&line[0..WORD_END], b"key") {
         return no_keys();
     }
-    let mut key = [0u8; 16];
-    if !read_all(&line[4..36], &mut key) {
+    let mut key = [0u8; KEY_OCTETS];
+    if !read_all(&line[KEY_AT..KEY_END], &mut key) {
         return no_keys();
     }
-    let key_id = digit_of(line[37]);
+    let key_id = digit_of(line[KEY_ID_AT]);
     if MOST_KEY_ID < key_id {
         return no_keys();
     }
-    let mut own = [0u8; 6];
-    if !read_all(&line[39..51], &mut own) {
+    let mut own = [0u8; ADDRESS_OCTETS];
+    if !read_all(&line[OWN_AT..OWN_END], &mut own) {
         return no_keys();
     }
-    let mut peer = [0u8; 6];
-    if !read_all(&line[52..64], &mut peer) {
+    let mut peer = [0u8; ADDRESS_OCTETS];
+    if !read_all(&line[PEER_AT..PEER_END], &mut peer) {
         return no_keys();
     }
     Keys {

@@ -9,6 +9,8 @@ use crate::answer::first_line;
 use crate::answer::open_line;
 use crate::answer::put_bad;
 use crate::answer::seal_line;
+use crate::line::ADDRESS_OCTETS;
+use crate::line::KEY_OCTETS;
 use crate::line::MOST_LINE;
 use crate::line::Request;
 use crate::line::request_of;
@@ -40,8 +42,8 @@ pub fn new_reader() -> Reader
     ensures { λ r. ⌜ r .book ≡ newBook ⌝ }
     ensures { λ r. ⌜ held r ≡ [] ⌝ }
 {
-    let sender = ccmp::new_sender([0; 16], 0, [0; 6]);
-    let receiver = ccmp::new_receiver([0; 16], 0, [0; 6]);
+    let sender = ccmp::new_sender([0; KEY_OCTETS], 0, [0; ADDRESS_OCTETS]);
+    let receiver = ccmp::new_receiver([0; KEY_OCTETS], 0, [0; ADDRESS_OCTETS]);
     Reader {
         book: Book {
             lines: 0,
@@ -153,14 +155,10 @@ fn feed_lines(b: Book, kept: usize, line: &mut [u8], piece: &[u8], out: &mut [u8
 }
 
 // At most what is kept of a line.
-fn kept_of(length: usize) -> usize
-    ensures { λ r. ⌜ (r ≤ mostKept) × ((length ≤ mostKept → r ≡ length) × (mostKept ≤ length → r ≡ mostKept)) ⌝ }
+fn kept_of(n: usize) -> usize
+    ensures { λ r. ⌜ (r ≤ mostKept) × ((n ≤ mostKept → r ≡ n) × (mostKept ≤ n → r ≡ mostKept)) ⌝ }
 {
-    if length < MOST_KEPT {
-        length
-    } else {
-        MOST_KEPT
-    }
+    if n < MOST_KEPT { n } else { MOST_KEPT }
 }
 
 // Takes a piece of text, or as much of it as there is room to answer, and writes the answers to the lines that end in it

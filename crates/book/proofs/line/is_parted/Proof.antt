@@ -1,10 +1,13 @@
--- The tabs of a good line 1 stand at 3, 36, 38 and 51, and where they do its fields are known.
+-- The tabs of a good line 1 stand in known places, and where they do its fields are known.
 use mathlib.Core.Path.{_≡_}
 use mathlib.Core.List.{List}
-use Prim.Native.Nat.{ℕ}
+use Prim.Native.Nat.{ℕ, _+_, _*_}
 use lib.ListN.{length}
 use borrow.Author.Needs.{needs}
 use borrow.Author.Tests.{eqb-true, eq-eqb}
+use Rattle.rules.specs.Limits.{keyOctets, addressOctets}
+use Rattle.book.specs.Line.{keyWord}
+use Rattle.book.specs.Handed.{keyAt, keyIdAt, ownAt, keyLineOctets}
 use Rattle.book.proofs.KeyLine.{places-of, tabs-of, never, found-at, at-found}
 use Rattle.book.proofs.line.is_parted.Statement.{statement}
 use Rattle.book.proofs.line.is_parted.Tie as tie
@@ -12,7 +15,7 @@ use Rattle.book.proofs.line.is_parted.Tie as tie
 abbrev L : tie.Else1 → List ℕ
 L c = c .before .before .args .line .now
 
-size : (c : tie.Else1) → length (L c) ≡ 64
+size : (c : tie.Else1) → length (L c) ≡ keyLineOctets
 size c = search needs
 
 returns : tie.Need-returns
@@ -22,19 +25,19 @@ returns-2 : tie.Need-returns-2
 returns-2 c =
     let d = c .before .before in
     let f = c .before .find in
-    (never, λ e. absurd (c .if2 .taken (found-at (L d) (size d) 0 3 (f .result) (f .ensures .0) (places-of (L d) e .tab-0))))
+    (never, λ e. absurd (c .if2 .taken (found-at (L d) (size d) 0 (length keyWord) (f .result) (f .ensures .0) (places-of (L d) e .tab-0))))
 
 returns-3 : tie.Need-returns-3
 returns-3 c =
     let d = c .before .before .before .before in
     let f = c .before .find2 in
-    (never, λ e. absurd (c .if3 .taken (found-at (L d) (size d) 4 32 (f .result) (f .ensures .0) (places-of (L d) e .tab-1))))
+    (never, λ e. absurd (c .if3 .taken (found-at (L d) (size d) keyAt (2 * keyOctets) (f .result) (f .ensures .0) (places-of (L d) e .tab-1))))
 
 returns-4 : tie.Need-returns-4
 returns-4 c =
     let d = c .before .before .before .before .before .before in
     let f = c .before .find3 in
-    (never, λ e. absurd (c .if4 .taken (found-at (L d) (size d) 37 1 (f .result) (f .ensures .0) (places-of (L d) e .tab-2))))
+    (never, λ e. absurd (c .if4 .taken (found-at (L d) (size d) keyIdAt 1 (f .result) (f .ensures .0) (places-of (L d) e .tab-2))))
 
 returns-5 : tie.Need-returns-5
 returns-5 c =
@@ -44,12 +47,12 @@ returns-5 c =
     let f = c .find4 in (
       λ e. tabs-of l (record {
         size = z;
-        tab-0 = at-found l z 0 3 (c .before .before .before .before .before .before .find .result) (c .before .before .before .before .before .before .find .ensures .0) (c .before .before .before .before .before .if2 .left);
-        tab-1 = at-found l z 4 32 (c .before .before .before .before .find2 .result) (c .before .before .before .before .find2 .ensures .0) (c .before .before .before .if3 .left);
-        tab-2 = at-found l z 37 1 (c .before .before .find3 .result) (c .before .before .find3 .ensures .0) (c .before .if4 .left);
-        tab-3 = at-found l z 39 12 (f .result) (f .ensures .0) (eqb-true (f .result) 51 e);
+        tab-0 = at-found l z 0 (length keyWord) (c .before .before .before .before .before .before .find .result) (c .before .before .before .before .before .before .find .ensures .0) (c .before .before .before .before .before .if2 .left);
+        tab-1 = at-found l z keyAt (2 * keyOctets) (c .before .before .before .before .find2 .result) (c .before .before .before .before .find2 .ensures .0) (c .before .before .before .if3 .left);
+        tab-2 = at-found l z keyIdAt 1 (c .before .before .find3 .result) (c .before .before .find3 .ensures .0) (c .before .if4 .left);
+        tab-3 = at-found l z ownAt (2 * addressOctets) (f .result) (f .ensures .0) (eqb-true (f .result) (ownAt + 2 * addressOctets) e);
       }),
-      λ e. eq-eqb (f .result) 51 (found-at l z 39 12 (f .result) (f .ensures .0) (places-of l e .tab-3)),
+      λ e. eq-eqb (f .result) (ownAt + 2 * addressOctets) (found-at l z ownAt (2 * addressOctets) (f .result) (f .ensures .0) (places-of l e .tab-3)),
     )
 
 pub is-parted-spec : {M : Type 1} → statement M

@@ -6,7 +6,7 @@ use native.Mathlib.Omega.{arith}
 use lib.ListN.{length}
 use borrow.Author.Needs.{needs}
 use borrow.Author.Tests.{not-true, not-false}
-use Rattle.book.specs.Handed.{KeyTabs}
+use Rattle.book.specs.Handed.{keyLineOctets, KeyTabs}
 use Rattle.book.proofs.KeyLine.{refused, never, wrong-word, wrong-key, wrong-id, wrong-own, wrong-peer, good-line}
 use Rattle.book.proofs.line.keys_of.Statement.{statement}
 use Rattle.book.proofs.line.keys_of.Tie as tie
@@ -17,7 +17,7 @@ L c = c .before .before .before .args .line .now
 tabs : (c : tie.Else1) → KeyTabs (L c)
 tabs c = c .before .is-parted .ensures .0 (not-false _ (c .if1 .left))
 
-size : (c : tie.Else1) → length (L c) ≡ 64
+size : (c : tie.Else1) → length (L c) ≡ keyLineOctets
 size c = tabs c .size
 
 returns : tie.Need-returns

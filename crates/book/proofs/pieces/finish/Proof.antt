@@ -8,7 +8,7 @@ use lib.Seq.{length-take-le}
 use borrow.Author.Needs.{needs}
 use Rattle.book.specs.Limits.{mostKept, mostAnswer}
 use Rattle.book.specs.Put.{put}
-use Rattle.book.specs.Text.{unended}
+use Rattle.book.specs.Text.{lineFeed, unended}
 use Rattle.book.specs.Pieces.{says, held, ended}
 use Rattle.book.proofs.Answered.{put-nothing}
 use Rattle.book.proofs.Held.{kept-held, none-said}
@@ -38,8 +38,8 @@ returns-2 c =
     let e = f .ensures .1 in
     let room : mostAnswer ≤ length (a .out .now) = search needs in
     let one : f .result .taken ≡ 1 = omega (arith, e .within, e .some (omega arith) room) in
-    let said : says (a .r .book) (ended (take (d .kept-of .result) (a .r .line)) (take (f .result .taken) (10 ∷ []))) ≡ says (a .r .book) (unended (held (a .r)))
-    = ap₂ (λ (p : List ℕ) (n : ℕ). says (a .r .book) (ended p (take n (10 ∷ [])))) (is-held d) one
+    let said : says (a .r .book) (ended (take (d .kept-of .result) (a .r .line)) (take (f .result .taken) (lineFeed ∷ []))) ≡ says (a .r .book) (unended (held (a .r)))
+    = ap₂ (λ (p : List ℕ) (n : ℕ). says (a .r .book) (ended p (take n (lineFeed ∷ [])))) (is-held d) one
     ∙ line-feed (a .r .book) (held (a .r)) (λ z. c .before .before .before .before .before .before .before .if1 .left (sym (held-size d) ∙ z)) in
     let size : length (f .last .1 .1 .1 .1 .0) ≡ length (a .out .now) = search needs in
     (f .ensures .0 .written-is ∙ ap length said, (omega (arith, e .fits), f .ensures .0 .room-is ∙ ap (λ t. put 0 t (a .out .now)) said))
