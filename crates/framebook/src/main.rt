@@ -3,6 +3,7 @@ use book::Book;
 use book::MOST_ANSWER;
 use book::Reader;
 use book::Stage;
+use libc::STDERR_FILENO;
 use libc::STDIN_FILENO;
 use libc::STDOUT_FILENO;
 ghost use mathlib.Core.Path.{_≡_};
@@ -15,9 +16,9 @@ ghost use Rattle.book.specs.Pieces.{after, cut, held, ended, left};
 const PIECE: usize = 65536;
 
 // The reader after a piece, and whether its answers could be written.
-pub struct Step {
-    pub reader: Reader,
-    pub wrote: bool,
+struct Step {
+    reader: Reader,
+    wrote: bool,
 }
 
 // Writes the answers to the lines that a piece ends, as much at a time as there is room for. No part of the piece is lost.
@@ -55,7 +56,16 @@ fn is_ended(b: Book) -> bool {
     }
 }
 
-// Reads to the end of the input, or to a bad line 1, or until nothing can be written.
+fn tell_unread() {
+    io::write_all(STDERR_FILENO, b"framebook: can't read standard input\n");
+}
+
+fn tell_unwritten() {
+    io::write_all(STDERR_FILENO, b"framebook: can't write standard output\n");
+}
+
+// Reads to the end of the input, or to a bad line 1. A read or a write that fails is told on standard error and ends the run: then
+// a last line without a line feed is not answered, since the end of the text was not seen.
 fn run(piece: &mut [u8], out: &mut [u8])
     requires { ⌜ mostAnswer ≤ length (now out) ⌝ }
 {
@@ -63,9 +73,14 @@ fn run(piece: &mut [u8], out: &mut [u8])
     let mut turns: u64 = 0xffff_ffff_ffff_ffff;
     while 0 < turns {
         let got = libc::read(STDIN_FILENO, piece);
+        if got < 0 {
+            tell_unread();
+            return;
+        }
         let n = io::count(got, piece);
         let s = feed_all(reader, &piece[..n], out);
         if !s.wrote {
+            tell_unwritten();
             return;
         }
         let next = s.reader;
@@ -78,7 +93,9 @@ fn run(piece: &mut [u8], out: &mut [u8])
     }
     let mut last = [0u8; MOST_ANSWER];
     let written = book::finish(reader, &mut last);
-    io::write_all(STDOUT_FILENO, &last[..written]);
+    if !io::write_all(STDOUT_FILENO, &last[..written]) {
+        tell_unwritten();
+    }
 }
 
 fn main() {
