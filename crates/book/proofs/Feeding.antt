@@ -7,6 +7,7 @@ use native.Mathlib.Nat.{zero-add}
 use native.Mathlib.Omega.{arith}
 use lib.ListN.{length, take, drop, length-drop, length-append}
 use lib.Seq.{take-all, take-take, length-take-le, take-add}
+use Rattle.octets.proofs.Orders.{le-or-lt}
 use Rattle.bytes.specs.Bytes.{slice, indexOf}
 use Rattle.book.specs.Limits.{mostKept, mostAnswer}
 use Rattle.book.specs.declared.Book.{Book}
@@ -14,7 +15,7 @@ use Rattle.book.specs.Put.{put}
 use Rattle.book.specs.Text.{lineFeed, parts}
 use Rattle.book.specs.Book.{bookSays, bookNext}
 use Rattle.book.specs.Pieces.{says, after, cut, ended, left, Gave, Enough}
-use Rattle.book.proofs.Held.{le-or, cut-append, same-says, same-next}
+use Rattle.book.proofs.Held.{cut-append, same-says, same-next}
 use Rattle.book.proofs.Parts.{whole-slice, parts-none, parts-ended}
 use Rattle.book.proofs.Puts.{put-put, put-within}
 use Rattle.book.proofs.Whole.{says-append, after-append, ended-append, left-append, before-any}
@@ -144,7 +145,7 @@ module _ (b : Book) (p piece out : List ℕ) where
           within = here .place;
           fits = here .room;
           whole = λ q. omega (arith, here .room);
-          some = λ q r. ⊎-elim (λ k. k) (λ k. absurd (omega (arith, none-yet (omega arith)))) (le-or 1 at);
+          some = λ q r. ⊎-elim (λ k. k) (λ k. absurd (omega (arith, none-yet (omega arith)))) (le-or-lt 1 at);
         }
 
   pub all-taken : (taken w : ℕ) → taken ≡ length piece → w ≤ length out → Enough (length piece) taken (length out) w

@@ -1,6 +1,6 @@
 -- The forms of a line, by the place of its first tab.
 use mathlib.Core.Path.{_≡_, refl, sym, ap, _∙_}
-use mathlib.Core.Bool.{Bool, true, false}
+use mathlib.Core.Bool.{true, false}
 use mathlib.Core.Logic.{⊎-elim}
 use mathlib.Core.List.{List, [], _∷_}
 use mathlib.Core.Option.{Option, none, some}
@@ -8,36 +8,17 @@ use Prim.Native.Nat.{ℕ, suc, _+_, _-_, _≤_, _<_}
 use native.Mathlib.Omega.{arith}
 use native.Mathlib.Numerals.{add-one}
 use borrow.Author.Tests.{lt-ltb, le-ltb, ne-eqb}
-use lib.ListN.{length, take, drop, getD, length-drop}
-use lib.Seq.{take-all, ext-getD}
+use lib.ListN.{length, take, drop, length-drop}
+use lib.Seq.{take-all}
 use Rattle.octets.specs.Octets.{same}
-use Rattle.octets.proofs.Same.{same-refl, same-is}
+use Rattle.octets.proofs.Orders.{le-or-lt}
 use Rattle.bytes.specs.Bytes.{slice, indexOf}
 use Rattle.book.specs.Limits.{mostLine}
 use Rattle.book.specs.Hex.{octetsOf}
 use Rattle.book.specs.Text.{tab, parts}
 use Rattle.book.specs.Line.{fields, sealWord, openWord, malformed, sealing, opening, askedOf, asked}
-use Rattle.book.proofs.Held.{le-or}
 use Rattle.book.proofs.Hexadecimals.{no-digit}
 use Rattle.book.proofs.Parts.{whole-slice, parts-some, parts-found, parts-none, split-found}
-
--- two texts are the same where their lengths and octets are
-pub sizes-differ : (a b : List ℕ) → (length a ≡ length b → ⊥) → false ≡ same a b
-sizes-differ a b h = go (same a b) refl
-  where
-    go : (t : Bool) → same a b ≡ t → false ≡ t
-    go true e = absurd (h (ap length (same-is a b e)))
-    go false e = refl
-
-pub octets-differ : (a b : List ℕ) (i : ℕ) → (getD a i 0 ≡ getD b i 0 → ⊥) → false ≡ same a b
-octets-differ a b i h = go (same a b) refl
-  where
-    go : (t : Bool) → same a b ≡ t → false ≡ t
-    go true e = absurd (h (ap (λ (z : List ℕ). getD z i 0) (same-is a b e)))
-    go false e = refl
-
-pub all-alike : (a b : List ℕ) → length a ≡ length b → ((i : ℕ) → i < length a → getD a i 0 ≡ getD b i 0) → true ≡ same a b
-all-alike a b e h = sym (ap (λ (z : List ℕ). same z b) (ext-getD 0 a b e h) ∙ same-refl b)
 
 pub too-long : (line : List ℕ) → mostLine < length line → malformed ≡ asked (fields line)
 unfolding fields asked
@@ -63,7 +44,7 @@ one-field s l e =
     ⊎-elim
     (λ h. parts-none tab s h)
     (λ h. absurd (let z : none ≡ some l = sym (no-digit (take (indexOf tab s) s) tab (drop (suc (indexOf tab s)) s) refl) ∙ ap octetsOf (sym (split-found tab s h)) ∙ e in let y : _≡_ {A = ℕ} 0 1 = cc in omega arith))
-    (le-or (length s) (indexOf tab s))
+    (le-or-lt (length s) (indexOf tab s))
 
 -- a word, and the text after its tab
 two-fields : (word s : List ℕ) → asked (word ∷ parts tab s) ≡ askedOf word (octetsOf s)
@@ -79,7 +60,7 @@ two-fields word s = go (octetsOf s) refl
         ⊎-elim
         (λ h. rw (parts-none tab s h, e))
         (λ h. let q = parts-some tab (drop (suc (indexOf tab s)) s) in more (take (indexOf tab s) s) (q .0) (q .1 .0) (parts-found tab s h ∙ ap (λ (r : List (List ℕ)). take (indexOf tab s) s ∷ r) (q .1 .1)))
-        (le-or (length s) (indexOf tab s))
+        (le-or-lt (length s) (indexOf tab s))
 
 module _ (line : List ℕ) (fits : length line ≤ mostLine) (end : ℕ) (found : end ≡ 0 + indexOf tab (slice 0 (length line) line)) where
   place : end ≡ indexOf tab line

@@ -1,14 +1,13 @@
 -- What is kept of a line tells all that the book says of it.
 use mathlib.Core.Path.{_≡_, refl, sym, ap, ap₂, _∙_}
-use mathlib.Core.Bool.{Bool, true, false}
 use mathlib.Core.Logic.{_⊎_, inl, inr, ⊎-elim}
 use mathlib.Core.List.{List, [], _∷_, _++_}
 use Prim.Native.Nat.{ℕ, _+_, _≤_, _<_}
 use native.Mathlib.Omega.{arith}
-use borrow.Author.Tests.{leb-true, leb-false, lt-ltb}
-use lib.Dec.{leb}
+use borrow.Author.Tests.{lt-ltb}
 use lib.ListN.{length, take, length-append}
 use lib.Seq.{take-all, take-append-le, take-append-add, length-take-le, take-take}
+use Rattle.octets.proofs.Orders.{le-or-lt}
 use Rattle.book.specs.Limits.{mostKept, mostLine}
 use Rattle.book.specs.declared.Book.{Book}
 use Rattle.book.specs.Put.{put}
@@ -18,13 +17,6 @@ use Rattle.book.specs.Book.{saysAt, nextAt, bookSays, bookNext}
 use Rattle.book.specs.Pieces.{says, cut}
 use Rattle.book.proofs.Puts.{take-put}
 
-pub le-or : (a b : ℕ) → (a ≤ b) ⊎ (b < a)
-le-or a b = go (leb a b) refl
-  where
-    go : (t : Bool) → leb a b ≡ t → (a ≤ b) ⊎ (b < a)
-    go true e = inl (leb-true a b e)
-    go false e = inr (leb-false a b e)
-
 cut-size : (l : List ℕ) → mostKept < length l → length (cut l) ≡ mostKept
 cut-size l h = length-take-le mostKept l (omega arith)
 
@@ -33,7 +25,7 @@ cut-cut p s =
     ⊎-elim
     (λ h. ap (λ (q : List ℕ). cut (q ++ s)) (take-all mostKept p h))
     (λ h. take-append-le mostKept (cut p) s (omega (arith, cut-size p h)) ∙ take-take mostKept mostKept p (omega arith) ∙ sym (take-append-le mostKept p s (omega arith)))
-    (le-or (length p) mostKept)
+    (le-or-lt (length p) mostKept)
 
 pub cut-append : (p q s : List ℕ) → cut p ≡ cut q → cut (p ++ s) ≡ cut (q ++ s)
 cut-append p q s e = sym (cut-cut p s) ∙ ap (λ (r : List ℕ). cut (r ++ s)) e ∙ cut-cut q s
@@ -44,7 +36,7 @@ fields-cut l =
     ⊎-elim
     (λ h. ap fields (take-all mostKept l h))
     (λ h. rw (lt-ltb mostLine (length (cut l)) (omega (arith, cut-size l h)), lt-ltb mostLine (length l) (omega arith)))
-    (le-or (length l) mostKept)
+    (le-or-lt (length l) mostKept)
 
 pub same-fields : (l m : List ℕ) → cut l ≡ cut m → fields l ≡ fields m
 same-fields l m e = sym (fields-cut l) ∙ ap fields e ∙ fields-cut m
@@ -83,7 +75,7 @@ kept-held line n k z h =
     ⊎-elim
     (λ l. ap (λ (i : ℕ). take i line) (h .0 l))
     (λ l. take-all k line (omega (arith, h .1 (omega arith))) ∙ sym (take-all n line (omega arith)))
-    (le-or n mostKept)
+    (le-or-lt n mostKept)
 
 pub none-said : (b : Book) (l : List ℕ) → length l ≡ 0 → says b (unended l) ≡ []
 unfolding says

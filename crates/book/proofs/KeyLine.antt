@@ -13,6 +13,7 @@ use lib.Seq.{length-take-le, take-all, drop-drop, drop-cons}
 use Rattle.octets.specs.Octets.{same}
 use Rattle.octets.specs.Options.{contents, isNone}
 use Rattle.octets.proofs.Booleans.{both}
+use Rattle.octets.proofs.Orders.{le-or-lt}
 use Rattle.octets.proofs.Same.{same-is}
 use Rattle.rules.specs.Limits.{mostKeyId, keyOctets, addressOctets}
 use Rattle.bytes.specs.Bytes.{slice, indexOf}
@@ -23,7 +24,6 @@ use Rattle.book.specs.Text.{tab, parts}
 use Rattle.book.specs.Line.{fields, field, keyWord, isHex, isKeyId, isKeyLine}
 use Rattle.book.specs.Handed.{keyAt, keyIdAt, ownAt, peerAt, keyLineOctets, wordPart, keyPart, keyIdPart, ownPart, peerPart, KeyTabs, Given}
 use Rattle.book.proofs.Hexadecimals.{length-digits}
-use Rattle.book.proofs.Held.{le-or}
 use Rattle.book.proofs.Forms.{one-field}
 use Rattle.book.proofs.Parts.{whole-slice, parts-some, parts-found, parts-none}
 
@@ -83,7 +83,7 @@ first-ends s w q qs e =
     let rest : parts tab (drop (suc (indexOf tab s)) s) ≡ q ∷ qs = cc in
     let n : indexOf tab s ≡ length w = sym (length-take-le (indexOf tab s) s (omega arith)) ∙ ap length first in
     (n, ap (λ (k : ℕ). parts tab (drop (suc k) s)) (sym n) ∙ rest))
-    (le-or (length s) (indexOf tab s))
+    (le-or-lt (length s) (indexOf tab s))
 
 pub last-part : (s p : List ℕ) → parts tab s ≡ p ∷ [] → p ≡ s
 last-part s p e =
@@ -93,7 +93,7 @@ last-part s p e =
     let q = parts-some tab (drop (suc (indexOf tab s)) s) in
     let z : take (indexOf tab s) s ∷ q .0 ∷ q .1 .0 ≡ p ∷ [] = ap (λ (r : List (List ℕ)). take (indexOf tab s) s ∷ r) (sym (q .1 .1)) ∙ sym (parts-found tab s h) ∙ e in
     let y : _≡_ {A = ℕ} 0 1 = cc in omega arith))
-    (le-or (length s) (indexOf tab s))
+    (le-or-lt (length s) (indexOf tab s))
 
 five-parts : (fs : List (List ℕ)) → length fs ≡ 5 → fs ≡ field fs 0 ∷ field fs 1 ∷ field fs 2 ∷ field fs 3 ∷ field fs 4 ∷ []
 five-parts (a ∷ b ∷ c ∷ d ∷ e ∷ []) h = refl

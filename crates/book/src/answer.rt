@@ -30,24 +30,24 @@ const ADDED: usize = 16;
 
 pub(crate) const MOST_RESULT: usize = MOST_FRAME + ADDED;
 
-const WORD: usize = 6;
+const WORD_OCTETS: usize = 6;
 
-pub const MOST_ANSWER: usize = MOST_DIGITS + WORD + MOST_DIGITS + 1 + 2 * MOST_RESULT + 1;
+pub const MOST_ANSWER: usize = MOST_DIGITS + WORD_OCTETS + MOST_DIGITS + 1 + 2 * MOST_RESULT + 1;
 
 // The sender, the receiver or the book after a line, and the place after what was written.
-pub struct SealTurn {
-    pub sender: Sender,
-    pub end: usize,
+pub(crate) struct SealTurn {
+    pub(crate) sender: Sender,
+    pub(crate) end: usize,
 }
 
-pub struct OpenTurn {
-    pub receiver: Receiver,
-    pub end: usize,
+pub(crate) struct OpenTurn {
+    pub(crate) receiver: Receiver,
+    pub(crate) end: usize,
 }
 
-pub struct Turn {
-    pub book: Book,
-    pub end: usize,
+pub(crate) struct Turn {
+    pub(crate) book: Book,
+    pub(crate) end: usize,
 }
 
 // The answer to a bad line.

@@ -7,7 +7,7 @@ ghost use Rattle.book.specs.Put.{put};
 ghost use Rattle.book.specs.Handed.{readIn, countIn};
 
 // How many octets digits write, or that they write none.
-pub enum Read {
+pub(crate) enum Read {
     Octets(usize),
     Malformed,
 }

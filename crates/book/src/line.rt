@@ -7,7 +7,6 @@ ghost use mathlib.Core.Path.{_≡_};
 ghost use mathlib.Core.Bool.{true, false, not};
 ghost use Prim.Native.Nat.{_*_, _≤_};
 ghost use lib.ListN.{length};
-ghost use Rattle.octets.specs.Octets.{same};
 ghost use Rattle.octets.specs.Options.{contents, isNone};
 ghost use Rattle.book.specs.Limits.{mostFrame};
 ghost use Rattle.book.specs.Hex.{octetsOf};
@@ -44,36 +43,19 @@ const PEER_AT: usize = OWN_END + 1;
 const PEER_END: usize = PEER_AT + 2 * ADDRESS_OCTETS;
 
 // What a later line asks, the frame being so many octets.
-pub enum Request {
+pub(crate) enum Request {
     Malformed,
     Seal(usize),
     Open(usize),
 }
 
 // What a good line 1 gives; zeros where it is not good.
-pub struct Keys {
-    pub good: bool,
-    pub key: [u8; KEY_OCTETS],
-    pub key_id: u8,
-    pub own: [u8; ADDRESS_OCTETS],
-    pub peer: [u8; ADDRESS_OCTETS],
-}
-
-// Whether a field is this word.
-fn is_word(field: &[u8], word: &[u8]) -> bool
-    ensures { λ r. ⌜ r ≡ same (now (field .entry)) (now (word .entry)) ⌝ }
-{
-    if field.len() != word.len() {
-        return false;
-    }
-    let mut i = 0;
-    while i < field.len() {
-        if field[i] != word[i] {
-            return false;
-        }
-        i += 1;
-    }
-    true
+pub(crate) struct Keys {
+    pub(crate) good: bool,
+    pub(crate) key: [u8; KEY_OCTETS],
+    pub(crate) key_id: u8,
+    pub(crate) own: [u8; ADDRESS_OCTETS],
+    pub(crate) peer: [u8; ADDRESS_OCTETS],
 }
 
 // What a line after the first asks. Its frame goes into the front of the room.
@@ -91,13 +73,13 @@ pub(crate) fn request_of(line: &[u8], frame: &mut [u8]) -> Request
         return Request::Malformed;
     }
     let digits = end + 1;
-    if is_word(&line[..end], b"seal") {
+    if octets::equal(&line[..end], b"seal") {
         return match read_hex(&line[digits..], frame) {
             Read::Malformed => Request::Malformed,
             Read::Octets(k) => Request::Seal(k),
         };
     }
-    if is_word(&line[..end], b"open") {
+    if octets::equal(&line[..end], b"open") {
         return match read_hex(&line[digits..], frame) {
             Read::Malformed => Request::Malformed,
             Read::Octets(k) => Request::Open(k),
@@ -158,7 +140,7 @@ pub(crate) fn keys_of(line: &[u8]) -> Keys
     if !is_parted(line) {
         return no_keys();
     }
-    if !is_word(&line[0..WORD_END], b"key") {
+    if !octets::equal(&line[0..WORD_END], b"key") {
         return no_keys();
     }
     let mut key = [0u8; KEY_OCTETS];

@@ -70,11 +70,11 @@ fn keep(line: &mut [u8], kept: usize, piece: &[u8], a: usize, e: usize) -> usize
 }
 
 // What a piece gave: the book after its lines, how much is kept of the one that has not ended, and as in Fed.
-pub struct Lines {
-    pub book: Book,
-    pub kept: usize,
-    pub taken: usize,
-    pub written: usize,
+struct Lines {
+    book: Book,
+    kept: usize,
+    taken: usize,
+    written: usize,
 }
 
 // Answers the lines that end in a piece, while there is room for an answer.

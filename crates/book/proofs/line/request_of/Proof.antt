@@ -36,47 +36,57 @@ returns-2 c =
     let c₀ = c .before in
     (no-tab (c₀ .before .before .before .before .args .line .now) (c₀ .before .if1 .left) (c₀ .find .result) (c₀ .find .ensures .0) (c .if2 .taken), search needs)
 
-slice-aggregate-is-word : tie.Need-slice-aggregate-is-word
-slice-aggregate-is-word c = sym (length-take-le _ _ (within (c .before)))
+-- back from where the word has been compared, with the first word and with the second
+abbrev first : tie.After-equal → tie.Else2
+first c = c .before .before .before
+
+abbrev second : tie.After-equal2 → tie.After-equal
+second c = c .before .before .before .before
+
+slice-aggregate-equal : tie.Need-slice-aggregate-equal
+slice-aggregate-equal c = sym (length-take-le _ _ (within (c .before)))
 
 returns-3 : tie.Need-returns-3
 unfolding askedOf
 returns-3 c =
-    let c₀ = c .before .before .before .before in
-    (reads-as (c .before .before .before .before .before .before .before .before .before .before .before) none (ap (λ r. readIn r (c₀ .read-hex .last .1 .0)) (sym (c .enum-told .given .1)) ∙ c₀ .read-hex .ensures .0), search needs)
+    let r = c .before .before .before .before in
+    (reads-as (first (r .before .before .before .before)) none (ap (λ x. readIn x (r .read-hex .last .1 .0)) (sym (c .enum-told .given .1)) ∙ r .read-hex .ensures .0), search needs)
 
 returns-4 : tie.Need-returns-4
 returns-4 c =
-    let c₀ = c .before .before .before .before .before in
-    let d = c .before .before .before .before .before .before .before .before .before .before .before .before in
+    let r = c .before .before .before .before .before in
+    let w = r .before .before .before .before in
     let told = c .before .k .given .1 in
     let count = ap countIn told in (
-      seals _ (sym ((c .before .before .before .before .before .before .before .before) .before .is-word .ensures) ∙ (c .before .before .before .before .before .before .before .before) .if3 .taken) _ ∙ reads-as d _ (ap (λ r. readIn r (c₀ .read-hex .last .1 .0)) (sym told) ∙ c₀ .read-hex .ensures .0),
-      omega (arith, c₀ .read-hex .ensures .1),
+      seals _ (sym (w .equal .ensures) ∙ r .before .before .before .if3 .taken) _ ∙ reads-as (first w) _ (ap (λ x. readIn x (r .read-hex .last .1 .0)) (sym told) ∙ r .read-hex .ensures .0),
+      omega (arith, r .read-hex .ensures .1),
     )
 
-slice-aggregate-is-word-3 : tie.Need-slice-aggregate-is-word-3
-slice-aggregate-is-word-3 c = sym (length-take-le _ _ (within (c .before .before .before .before .before)))
+slice-aggregate-equal-3 : tie.Need-slice-aggregate-equal-3
+slice-aggregate-equal-3 c = sym (length-take-le _ _ (within (first (c .before .before))))
 
 returns-5 : tie.Need-returns-5
 unfolding askedOf
 returns-5 c =
-    let c₀ = c .before .before .before .before in
-    (reads-as (c .before .before .before .before .before .before .before .before .before .before .before .before .before .before .before) none (ap (λ r. readIn r (c₀ .read-hex2 .last .1 .0)) (sym (c .enum-told2 .given .1)) ∙ c₀ .read-hex2 .ensures .0), search needs)
+    let r = c .before .before .before .before in
+    (reads-as (first (second (r .before .before .before .before))) none (ap (λ x. readIn x (r .read-hex2 .last .1 .0)) (sym (c .enum-told2 .given .1)) ∙ r .read-hex2 .ensures .0), search needs)
 
 returns-6 : tie.Need-returns-6
 returns-6 c =
-    let c₀ = c .before .before .before .before .before in
-    let d = c .before .before .before .before .before .before .before .before .before .before .before .before .before .before .before .before in
+    let r = c .before .before .before .before .before in
+    let v = r .before .before .before .before in
+    let w = second v in
     let told = c .before .k2 .given .1 in
     let count = ap countIn told in (
-      opens _ (sym (c .before .before .before .before .before .before .before .before .before .before .before .before .before .is-word .ensures) ∙ c .before .before .before .before .before .before .before .before .before .before .before .before .if3 .left) (sym (c .before .before .before .before .before .before .before .before .before .is-word2 .ensures) ∙ c .before .before .before .before .before .before .before .before .if4 .taken) _ ∙ reads-as d _ (ap (λ r. readIn r (c₀ .read-hex2 .last .1 .0)) (sym told) ∙ c₀ .read-hex2 .ensures .0),
-      omega (arith, c₀ .read-hex2 .ensures .1),
+      opens _ (sym (w .equal .ensures) ∙ v .before .before .before .if3 .left) (sym (v .equal2 .ensures) ∙ r .before .before .before .if4 .taken) _ ∙ reads-as (first w) _ (ap (λ x. readIn x (r .read-hex2 .last .1 .0)) (sym told) ∙ r .read-hex2 .ensures .0),
+      omega (arith, r .read-hex2 .ensures .1),
     )
 
 returns-7 : tie.Need-returns-7
 returns-7 c =
-    (neither _ (sym (c .before .before .before .before .before .is-word .ensures) ∙ c .before .before .before .before .if3 .left) (sym (c .before .is-word2 .ensures) ∙ c .if4 .left) _ ∙ reads-as (c .before .before .before .before .before .before .before .before) _ refl, search needs)
+    let v = c .before in
+    let w = second v in
+    (neither _ (sym (w .equal .ensures) ∙ v .before .before .before .if3 .left) (sym (v .equal2 .ensures) ∙ c .if4 .left) _ ∙ reads-as (first w) _ refl, search needs)
 
 pub request-of-spec : {M : Type 1} → statement M
 request-of-spec =
@@ -86,7 +96,7 @@ request-of-spec =
     (λ c κs. search needs)
     returns-2
     (λ c. search needs)
-    slice-aggregate-is-word
+    slice-aggregate-equal
     (λ c. search needs)
     (λ c κs. search needs)
     (λ c. search needs)
@@ -99,7 +109,7 @@ request-of-spec =
     returns-3
     (λ c. search needs)
     returns-4
-    slice-aggregate-is-word-3
+    slice-aggregate-equal-3
     (λ c. search needs)
     (λ c κs. search needs)
     (λ c. search needs)
