@@ -46,30 +46,38 @@ slice-aggregate-write-all c = sym (length-take-le _ _ (slice-reshare-prefix-writ
 returns : tie.Need-returns Inv-loop μ-loop
 returns c = (never, never)
 
+-- back from where a part of the piece has been fed to the start of the turn
+abbrev turn : tie.After-feed Inv-loop μ-loop → tie.At-loop Inv-loop μ-loop
+turn c = c .before .before .before .before
+
+abbrev piece : tie.After-feed Inv-loop μ-loop → List ℕ
+piece c = turn c .before .before .before .args .piece .now
+
 loop-less : tie.Need-loop-less Inv-loop μ-loop
 loop-less c =
-    let l = c .before .before .before .before .before .before .before .before .before .before .before .loop in
-    let e = c .before .before .before .before .before .before .before .feed .ensures .1 in
-    let s = size-of (c .before .before .before .before .before .before .before .before .before .before .before .before .before .before .args .piece .now) (l .at) in
-    let t = c .before .before .before .before .before .before .before .before .before .before .loop-test .taken in
+    let f = c .before .before .before .before .before .before .before in
+    let l = turn f .loop in
+    let e = f .feed .ensures .1 in
+    let s = size-of (piece f) (l .at) in
+    let t = f .before .before .before .loop-test .taken in
     let some = e .some (omega arith) (omega (arith, l .inv .1)) in
     search needs
 
 loop-again : tie.Need-loop-again Inv-loop μ-loop
 loop-again c =
-    let a = c .before .before .before .before .before .before .before .before .before .before .before .before .before .before .args in
-    let l = c .before .before .before .before .before .before .before .before .before .before .before .loop in
-    let f = c .before .before .before .before .before .before .before .feed in
-    let e = f .ensures .1 in
-    let t = take (f .result .taken) (drop (l .at) (a .piece .now)) in
-    let part : take (f .result .taken) (take (length (a .piece .now) - l .at) (drop (l .at) (a .piece .now))) ≡ t = ap (take (f .result .taken)) (rest-of (a .piece .now) (l .at)) in
-    let next = sym (take-add (l .at) (f .result .taken) (a .piece .now)) in
-    let more = another (a .r .book) (held (a .r)) (take (l .at) (a .piece .now)) (l .reader .book) (held (l .reader)) t (l .inv .2) (l .inv .3) in
-    let size = size-of (a .piece .now) (l .at) in (
+    let d = c .before .before .before .before .before .before .before in
+    let l = turn d .loop in
+    let r = turn d .before .before .before .args .r in
+    let f = d .feed in
+    let t = take (f .result .taken) (drop (l .at) (piece d)) in
+    let part : take (f .result .taken) (take (length (piece d) - l .at) (drop (l .at) (piece d))) ≡ t = ap (take (f .result .taken)) (rest-of (piece d) (l .at)) in
+    let next = sym (take-add (l .at) (f .result .taken) (piece d)) in
+    let more = another (r .book) (held r) (take (l .at) (piece d)) (l .reader .book) (held (l .reader)) t (l .inv .2) (l .inv .3) in
+    let size = size-of (piece d) (l .at) in (
       search needs,
       search needs,
-      f .ensures .0 .book-is ∙ ap (λ x. after (l .reader .book) (ended (held (l .reader)) x)) part ∙ more .0 ∙ ap (λ x. after (a .r .book) (ended (held (a .r)) x)) next,
-      f .ensures .0 .line-is ∙ ap (λ x. cut (left (held (l .reader)) x)) part ∙ more .1 ∙ ap (λ x. cut (left (held (a .r)) x)) next,
+      f .ensures .0 .book-is ∙ ap (λ x. after (l .reader .book) (ended (held (l .reader)) x)) part ∙ more .0 ∙ ap (λ x. after (r .book) (ended (held r) x)) next,
+      f .ensures .0 .line-is ∙ ap (λ x. cut (left (held (l .reader)) x)) part ∙ more .1 ∙ ap (λ x. cut (left (held r) x)) next,
     )
 
 returns-2 : tie.Need-returns-2 Inv-loop μ-loop

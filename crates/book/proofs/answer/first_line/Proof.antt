@@ -10,19 +10,19 @@ use Rattle.book.proofs.answer.first_line.Tie as tie
 
 returns : tie.Need-returns
 returns c =
-    let a = c .before .before .before .before .before .before .before .before .before .before .before .before .args in
-    let n = c .before .before .before .before .before .before .before .before .before .wrapping-add-u64 in
-    let k = c .before .before .before .before .before .before .before .before .keys-of .ensures in
-    let p = c .before .before .before .before .put-bad .ensures in
-    let bad = sym (k .0) ∙ not-true _ (c .before .before .before .before .before .before .if1 .taken) in
+    let r = c .before .before .before .before .before .before .before .before in
+    let a = r .before .before .before .before .args in
+    let n = r .before .wrapping-add-u64 in
+    let bad = sym (r .keys-of .ensures .0) ∙ not-true _ (c .before .before .before .before .before .before .if1 .taken) in
     let says = first-told (a .b) _ (n .result) (n .ensures) bad in
-    (first-bad (a .b) _ (n .result) (n .ensures) bad, as-text (a .at) (a .out .now) _ _ _ _ says p)
+    (first-bad (a .b) _ (n .result) (n .ensures) bad, as-text (a .at) (a .out .now) _ _ _ _ says (c .before .before .before .before .put-bad .ensures))
 
 returns-2 : tie.Need-returns-2
 returns-2 c =
-    let a = c .before .before .before .before .before .before .before .before .before .before .before .before .before .args in
-    let n = c .before .before .before .before .before .before .before .before .before .before .wrapping-add-u64 in
-    let k = c .before .before .before .before .before .before .before .before .before .keys-of in
+    let r = c .before .before .before .before .before .before .before .before .before in
+    let a = r .before .before .before .before .args in
+    let n = r .before .wrapping-add-u64 in
+    let k = r .keys-of in
     let good = not-false _ (c .before .before .before .before .before .before .before .if1 .left) in
     let is = sym (k .ensures .0) ∙ good in (
       first-good (a .b) _ (n .result) (n .ensures) is (k .result) (k .ensures .1 good) _ _ (c .before .before .before .fresh-sender .ensures .1) (c .before .before .fresh-receiver .ensures .1),

@@ -13,22 +13,24 @@ use Rattle.book.proofs.Puts.{as-text}
 use Rattle.book.proofs.answer.open_line.Statement.{statement}
 use Rattle.book.proofs.answer.open_line.Tie as tie
 
+abbrev start : tie.After-open → tie.Start
+start c = c .before .before .before .before .before
+
 fits : (c : tie.After-open) → octetsWritten (c .«open» .result .answer) ≤ mostResult
 fits c =
-    let c₀ = c .before .before .before .before .before in
-    let a = c₀ .args in
-    omega (arith, opened-fits (a .frame .now) (a .result .now) (a .r) (c .«open» .result .answer) (c .«open» .ensures .0), c₀ .pre)
+    let a = start c .args in
+    omega (arith, opened-fits (a .frame .now) (a .result .now) (a .r) (c .«open» .result .answer) (c .«open» .ensures .0), start c .pre)
 
 put-answer-requires : tie.Need-put-answer-requires
 put-answer-requires c κs = let f = fits (c .before .before .before .before .before .before) in search needs
 
 returns : tie.Need-returns
 returns c =
-    let c₀ = c .before .before .before .before .before .before .before .before .before .before .before .before .before .before in
-    let a = c₀ .args in
-    let s = c .before .before .before .before .before .before .before .before .before .«open» in
+    let d = c .before .before .before .before .before .before .before .before .before in
+    let a = start d .args in
+    let s = d .«open» in
     let p = c .before .before .put-answer .ensures in
-    let room : length (a .frame .now) + added ≤ length (a .result .now) = omega (arith, c₀ .pre) in
+    let room : length (a .frame .now) + added ≤ length (a .result .now) = omega (arith, start d .pre) in
     let text = open-line (a .frame .now) (a .result .now) room (a .n) (a .r) (s .result .answer) (s .last .1 .1 .0) (s .ensures .0) (s .ensures .1 .1) in (
       s .ensures .1 .0 ∙ ap (receiverNext (a .r)) (opens-alike (a .frame .now) (a .result .now) room (a .r)),
       as-text (a .at) (a .out .now) _ _ _ _ text p,

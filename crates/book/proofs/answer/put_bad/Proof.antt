@@ -10,11 +10,12 @@ put-text-requires c κs = let d = length-decimal (c .before .before .before .bef
 
 returns : tie.Need-returns
 returns c =
-    let c₀ = c .before .before .before .before .before .before .before .before .before .before in
+    let p = c .before .before .before .before .before .before .before in
+    let c₀ = p .before .before .before in
     let a = c₀ .args in
-    let p = c .before .before .before .before .before .before .before .put-decimal in
-    let t = c .before .before .put-text in
-    bad-laid (a .n) (a .at) (a .out .now) (c₀ .pre) _ _ (p .ensures .1) (p .ensures .0) _ _ (t .ensures .1) (t .ensures .0)
+    let n = p .put-decimal .ensures in
+    let t = c .before .before .put-text .ensures in
+    bad-laid (a .n) (a .at) (a .out .now) (c₀ .pre) _ _ (n .1) (n .0) _ _ (t .1) (t .0)
 
 pub put-bad-spec : {M : Type 1} → statement M
 put-bad-spec =

@@ -41,15 +41,18 @@ returns-4 c =
 
 returns-5 : tie.Need-returns-5
 returns-5 c =
-    let d = c .before .before .before .before .before .before .before in
+    let t₃ = c .before .before in
+    let t₂ = t₃ .before .before in
+    let t₁ = t₂ .before .before in
+    let d = t₁ .before in
     let l = L d in
     let z = size d in
     let f = c .find4 in (
       λ e. tabs-of l (record {
         size = z;
-        tab-0 = at-found l z 0 (length keyWord) (c .before .before .before .before .before .before .find .result) (c .before .before .before .before .before .before .find .ensures .0) (c .before .before .before .before .before .if2 .left);
-        tab-1 = at-found l z keyAt (2 * keyOctets) (c .before .before .before .before .find2 .result) (c .before .before .before .before .find2 .ensures .0) (c .before .before .before .if3 .left);
-        tab-2 = at-found l z keyIdAt 1 (c .before .before .find3 .result) (c .before .before .find3 .ensures .0) (c .before .if4 .left);
+        tab-0 = at-found l z 0 (length keyWord) (t₁ .find .result) (t₁ .find .ensures .0) (t₂ .before .if2 .left);
+        tab-1 = at-found l z keyAt (2 * keyOctets) (t₂ .find2 .result) (t₂ .find2 .ensures .0) (t₃ .before .if3 .left);
+        tab-2 = at-found l z keyIdAt 1 (t₃ .find3 .result) (t₃ .find3 .ensures .0) (c .before .if4 .left);
         tab-3 = at-found l z ownAt (2 * addressOctets) (f .result) (f .ensures .0) (eqb-true (f .result) (ownAt + 2 * addressOctets) e);
       }),
       λ e. eq-eqb (f .result) (ownAt + 2 * addressOctets) (found-at l z ownAt (2 * addressOctets) (f .result) (f .ensures .0) (places-of l e .tab-3)),

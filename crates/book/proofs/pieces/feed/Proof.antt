@@ -6,10 +6,10 @@ use Rattle.book.proofs.pieces.feed.Tie as tie
 
 returns : tie.Need-returns
 returns c =
-    let a = c .before .before .before .before .before .before .before .before .before .before .before .before .args in
-    let k = c .before .before .before .before .before .before .before .before .kept-of in
+    let k = c .before .before .before .before .before .before .before .before in
+    let a = k .before .before .before .before .args in
     let f = c .before .before .before .before .feed-lines .ensures in
-    (rw (kept-held (a .r .line) (a .r .length) (k .result) (search needs) (k .ensures .1)) at (f .0), f .1)
+    (rw (kept-held (a .r .line) (a .r .length) (k .kept-of .result) (search needs) (k .kept-of .ensures .1)) at (f .0), f .1)
 
 pub feed-spec : {M : Type 1} → statement M
 feed-spec =

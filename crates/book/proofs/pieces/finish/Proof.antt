@@ -32,7 +32,8 @@ returns c =
 
 returns-2 : tie.Need-returns-2
 returns-2 c =
-    let d = c .before .before .before .before .before .before .before .before in
+    let r = c .before .before .before .before .before .before .before in
+    let d = r .before in
     let a = d .before .args in
     let f = c .before .feed-lines in
     let e = f .ensures .1 in
@@ -40,7 +41,7 @@ returns-2 c =
     let one : f .result .taken ≡ 1 = omega (arith, e .within, e .some (omega arith) room) in
     let said : says (a .r .book) (ended (take (d .kept-of .result) (a .r .line)) (take (f .result .taken) (lineFeed ∷ []))) ≡ says (a .r .book) (unended (held (a .r)))
     = ap₂ (λ (p : List ℕ) (n : ℕ). says (a .r .book) (ended p (take n (lineFeed ∷ [])))) (is-held d) one
-    ∙ line-feed (a .r .book) (held (a .r)) (λ z. c .before .before .before .before .before .before .before .if1 .left (sym (held-size d) ∙ z)) in
+    ∙ line-feed (a .r .book) (held (a .r)) (λ z. r .if1 .left (sym (held-size d) ∙ z)) in
     let size : length (f .last .1 .1 .1 .1 .0) ≡ length (a .out .now) = search needs in
     (f .ensures .0 .written-is ∙ ap length said, (omega (arith, e .fits), f .ensures .0 .room-is ∙ ap (λ t. put 0 t (a .out .now)) said))
 
