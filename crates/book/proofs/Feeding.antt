@@ -21,6 +21,10 @@ use Rattle.book.proofs.Puts.{put-put, put-within}
 use Rattle.book.proofs.Whole.{says-append, after-append, ended-append, left-append, before-any}
 use Rattle.book.proofs.Answered.{put-nothing}
 
+-- what is taken of a piece up to at₂: what was taken up to `at`, and after it a line with its line feed
+abbrev pub LineTaken : List ℕ → ℕ → ℕ → Type 0
+LineTaken piece at at₂ = take at₂ piece ≡ take at piece ++ take (suc (indexOf lineFeed (drop at piece))) (drop at piece)
+
 module _ (b : Book) (p piece out : List ℕ) where
   pub record Here (line out′ : List ℕ) (book : Book) (h at w : ℕ) : Type 0 where
     pub line-size : length line ≡ mostKept
@@ -97,30 +101,31 @@ module _ (b : Book) (p piece out : List ℕ) where
             };
           }
 
+      pub line-taken : LineTaken piece at (end + 1)
+      line-taken = let next : end + 1 ≡ at + suc n = omega (arith, place) in ap (λ (k : ℕ). take k piece) next ∙ take-add at (suc n) piece
+
       -- a line feed at `end`: the line is answered
-      pub more : end < length piece → (book₂ : Book) (out₂ : List ℕ) (w₂ : ℕ) → length out₂ ≡ length out′ → book₂ ≡ bookNext book (take h₂ line₂) → w₂ ≡ w + length (bookSays book (take h₂ line₂))
-          → out₂ ≡ put w (bookSays book (take h₂ line₂)) out′ → Here line₂ out₂ book₂ 0 (end + 1) w₂
+      pub more : end < length piece → (at₂ : ℕ) → LineTaken piece at at₂ → at₂ ≤ length piece → (book₂ : Book) (out₂ : List ℕ) (w₂ : ℕ) → length out₂ ≡ length out′ → book₂ ≡ bookNext book (take h₂ line₂) → w₂ ≡ w + length (bookSays book (take h₂ line₂))
+          → out₂ ≡ put w (bookSays book (take h₂ line₂)) out′ → Here line₂ out₂ book₂ 0 at₂ w₂
       unfolding says after
-      more e book₂ out₂ w₂ zo be we oe =
+      more e at₂ two within book₂ out₂ w₂ zo be we oe =
           let size : n < length s = omega (arith, place, length-drop at piece) in
           let one = parts-ended lineFeed s size in
-          let next : end + 1 ≡ at + suc n = omega (arith, place) in
-          let two : take (end + 1) piece ≡ t ++ take (suc n) s = ap (λ (k : ℕ). take k piece) next ∙ take-add at (suc n) piece in
-          let line-left : left p (take (end + 1) piece) ≡ [] = ap (left p) two ∙ left-append p t (take (suc n) s) ∙ rw one in
+          let line-left : left p (take at₂ piece) ≡ [] = ap (left p) two ∙ left-append p t (take (suc n) s) ∙ rw one in
           let x : List ℕ = l ++ take n s in
-          let lines : ended p (take (end + 1) piece) ≡ ended p t ++ (x ∷ []) = ap (ended p) two ∙ ended-append p t (take (suc n) s) ∙ rw one in
+          let lines : ended p (take at₂ piece) ≡ ended p t ++ (x ∷ []) = ap (ended p) two ∙ ended-append p t (take (suc n) s) ∙ rw one in
           let same : cut (take h₂ line₂) ≡ cut x = ap cut kept-is ∙ take-take mostKept mostKept x (omega arith) in
           let b₁ = after b (ended p t) in
           let book-is = here .gave .book-is in
           let said : bookSays book (take h₂ line₂) ≡ bookSays b₁ x = ap (λ (y : Book). bookSays y (take h₂ line₂)) book-is ∙ same-says b₁ (take h₂ line₂) x same in
-          let all : says b (ended p (take (end + 1) piece)) ≡ says b (ended p t) ++ bookSays b₁ x
+          let all : says b (ended p (take at₂ piece)) ≡ says b (ended p t) ++ bookSays b₁ x
           = ap (says b) lines ∙ says-append (ended p t) (x ∷ []) b ∙ ap (λ (y : List ℕ). says b (ended p t) ++ y) (append-nil (bookSays b₁ x)) in
           let w-is = here .gave .written-is in
           let fits : w + length (bookSays book (take h₂ line₂)) ≤ length out′ = put-within w (bookSays book (take h₂ line₂)) out′ (omega (arith, here .room, here .out-size)) (ap length (sym oe) ∙ zo) in
           record {
             line-size = z₂;
             small = omega arith;
-            place = omega arith;
+            place = within;
             out-size = zo ∙ here .out-size;
             room = omega (arith, here .out-size);
             gave = record {

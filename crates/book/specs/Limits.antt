@@ -1,4 +1,4 @@
--- Document 01, "The frame book": the longest line and what follows from it, and the sizes of a line's parts.
+-- Document 01, "The frame book": the longest line, and what follows from it.
 use Prim.Native.Nat.{ℕ, _+_, _*_, _/_}
 use Rattle.rules.specs.Limits.{added}
 

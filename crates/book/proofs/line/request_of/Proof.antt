@@ -7,6 +7,7 @@ use native.Mathlib.Omega.{arith}
 use lib.ListN.{length, take, drop}
 use lib.Seq.{length-take-le}
 use borrow.Author.Needs.{needs}
+use Rattle.book.specs.Limits.{mostLine}
 use Rattle.book.specs.Hex.{octetsOf}
 use Rattle.book.specs.Line.{fields, askedOf, asked}
 use Rattle.book.specs.Handed.{readIn, countIn}
@@ -14,7 +15,11 @@ use Rattle.book.proofs.Forms.{too-long, no-tab, seals, opens, neither, 
 use Rattle.book.proofs.line.request_of.Statement.{statement}
 use Rattle.book.proofs.line.request_of.Tie as tie
 
--- where the line has a tab
+-- where the line is not too long
+fits : (c : tie.Else1) → length (c .before .before .before .args .line .now) ≤ mostLine
+fits c = omega (arith, c .if1 .left)
+
+-- where it has a tab
 abbrev L : tie.Else2 → List ℕ
 L c = c .before .before .before .before .before .args .line .now
 
@@ -25,16 +30,16 @@ within : (c : tie.Else2) → E c ≤ length (L c)
 within c = c .before .find .ensures .1
 
 reads-as : (c : tie.Else2) (o : Option (List ℕ)) → o ≡ octetsOf (take (length (L c) - (E c + 1)) (drop (E c + 1) (L c))) → askedOf (take (E c) (L c)) o ≡ asked (fields (L c))
-reads-as c o e = asked-is (L c) (c .before .before .if1 .left) (E c) (c .before .find .ensures .0) (omega (arith, within c, c .if2 .left)) o e
+reads-as c o e = asked-is (L c) (fits (c .before .before)) (E c) (c .before .find .ensures .0) (omega (arith, within c, c .if2 .left)) o e
 
 returns : tie.Need-returns
 returns c =
-    (too-long (c .before .before .before .args .line .now) (c .if1 .taken), search needs)
+    (too-long (c .before .before .before .args .line .now) (omega (arith, c .if1 .taken)), search needs)
 
 returns-2 : tie.Need-returns-2
 returns-2 c =
     let c₀ = c .before in
-    (no-tab (c₀ .before .before .before .before .args .line .now) (c₀ .before .if1 .left) (c₀ .find .result) (c₀ .find .ensures .0) (c .if2 .taken), search needs)
+    (no-tab (c₀ .before .before .before .before .args .line .now) (fits (c₀ .before)) (c₀ .find .result) (c₀ .find .ensures .0) (c .if2 .taken), search needs)
 
 -- back from where the word has been compared, with the first word and with the second
 abbrev first : tie.After-equal → tie.Else2

@@ -18,7 +18,7 @@ use Rattle.book.specs.Line.{fields, asked}
 use Rattle.book.specs.Book.{lineNumber}
 use Rattle.book.specs.Handed.{requestIn, frameIn}
 use Rattle.book.proofs.Answered.{Left, at-stage, nothing-left, bad-left, sealed-left, opened-left}
-use Rattle.book.proofs.Feeding.{Here, start, rest, more, short, all-taken}
+use Rattle.book.proofs.Feeding.{LineTaken, Here, start, rest, line-taken, more, short, all-taken}
 use Rattle.book.proofs.pieces.feed_lines.Statement.{statement}
 use Rattle.book.proofs.pieces.feed_lines.Tie as tie
 
@@ -111,11 +111,17 @@ module _ (c : tie.Else2 Inv-loop μ-loop) where
   ahead : (at kept ≤ end kept) × (end kept < length (piece kept))
   ahead = let f = found kept .find .ensures in (omega (arith, f .0), omega (arith, f .1, c .if2 .left))
 
-  next : (book₂ : Book) (out₂ : List ℕ) (w₂ : ℕ) → length out₂ ≡ length (O kept) → Left (B kept) (T kept) (w kept) (O kept) book₂ w₂ out₂
-      → Here (B₀ kept) (p₀ kept) (piece kept) (O₀ kept) (L kept) out₂ book₂ 0 (end kept + 1) w₂
-  next book₂ out₂ w₂ z h =
+  line-is-taken : LineTaken (piece kept) (at kept) (end kept + 1)
+  line-is-taken =
+      line-taken (B₀ kept) (p₀ kept) (piece kept) (O₀ kept) _ (O kept) (B kept) _ (at kept) (w kept) (here kept) (end kept) (found kept .find .ensures .0) (L kept) (n kept) (size kept)
+      (kept .before .before .keep .ensures .1)
+
+  next : (at₂ : ℕ) → LineTaken (piece kept) (at kept) at₂ → at₂ ≤ length (piece kept)
+      → (book₂ : Book) (out₂ : List ℕ) (w₂ : ℕ) → length out₂ ≡ length (O kept) → Left (B kept) (T kept) (w kept) (O kept) book₂ w₂ out₂
+      → Here (B₀ kept) (p₀ kept) (piece kept) (O₀ kept) (L kept) out₂ book₂ 0 at₂ w₂
+  next at₂ taken within book₂ out₂ w₂ z h =
       more (B₀ kept) (p₀ kept) (piece kept) (O₀ kept) _ (O kept) (B kept) _ (at kept) (w kept) (here kept) (end kept) (found kept .find .ensures .0) (L kept) (n kept) (size kept)
-      (kept .before .before .keep .ensures .1) (ahead .1) book₂ out₂ w₂ z (h .0) (h .1 .0) (h .1 .1)
+      (kept .before .before .keep .ensures .1) (ahead .1) at₂ taken within book₂ out₂ w₂ z (h .0) (h .1 .0) (h .1 .1)
 
 -- where a later line has been read
 module _ (c : tie.After-frame2 Inv-loop μ-loop) where
@@ -191,7 +197,7 @@ loop-again-2 c = (
   search needs,
   search needs,
   let e = c .before .before .before .before .before .before .before .before .before .before in
-      next e _ _ _ (search needs) (at-stage (B (kept e)) _ First (T (kept e)) (w (kept e)) _ (O (kept e)) _ (c .before .before .before .before .before .before .before .before .enum-told .given .1) (c .before .before .before .before .before .first-line .ensures)),
+      next e _ (line-is-taken e) (omega (arith, ahead e)) _ _ _ (search needs) (at-stage (B (kept e)) _ First (T (kept e)) (w (kept e)) _ (O (kept e)) _ (c .before .before .before .before .before .before .before .before .enum-told .given .1) (c .before .before .before .before .before .first-line .ensures)),
 )
 
 slice-reshare-prefix-request-of : tie.Need-slice-reshare-prefix-request-of Inv-loop μ-loop
@@ -212,7 +218,7 @@ loop-again-3 c = (
   search needs,
   let r = c .before .before .before .before .before .before in
       let p = c .before .before .put-bad .ensures in
-      next (fed r) _ _ _ (search needs) (bad-left (b r) (text r) (going r) (written r) (o r) (number r) (numbered r) _ _ (asks r _ (c .before .before .before .before .enum-told3 .given .1)) (p .0) (p .1)),
+      next (fed r) _ (line-is-taken (fed r)) (omega (arith, ahead (fed r))) _ _ _ (search needs) (bad-left (b r) (text r) (going r) (written r) (o r) (number r) (numbered r) _ _ (asks r _ (c .before .before .before .before .enum-told3 .given .1)) (p .0) (p .1)),
 )
 
 array-share-prefix-frame : tie.Need-array-share-prefix-frame Inv-loop μ-loop
@@ -233,7 +239,7 @@ loop-again-4 c = (
   search needs,
   let r = c .before .before .before .before .before .before .before .before .before .before .before in
       let p = c .before .before .before .before .seal-line .ensures in
-      next (fed r) _ _ _ (search needs) (sealed-left (b r) (text r) (going r) (written r) (o r) (number r) (numbered r) _ _ _ (asks r _ (c .before .before .before .before .before .before .before .before .before .k .given .1)) _ (p .0) (p .1 .0) (p .1 .1)),
+      next (fed r) _ (line-is-taken (fed r)) (omega (arith, ahead (fed r))) _ _ _ (search needs) (sealed-left (b r) (text r) (going r) (written r) (o r) (number r) (numbered r) _ _ _ (asks r _ (c .before .before .before .before .before .before .before .before .before .k .given .1)) _ (p .0) (p .1 .0) (p .1 .1)),
 )
 
 array-share-prefix-frame-2 : tie.Need-array-share-prefix-frame-2 Inv-loop μ-loop
@@ -254,7 +260,7 @@ loop-again-5 c = (
   search needs,
   let r = c .before .before .before .before .before .before .before .before .before .before .before in
       let p = c .before .before .before .before .open-line .ensures in
-      next (fed r) _ _ _ (search needs) (opened-left (b r) (text r) (going r) (written r) (o r) (number r) (numbered r) _ _ _ (asks r _ (c .before .before .before .before .before .before .before .before .before .k2 .given .1)) _ (p .0) (p .1 .0) (p .1 .1)),
+      next (fed r) _ (line-is-taken (fed r)) (omega (arith, ahead (fed r))) _ _ _ (search needs) (opened-left (b r) (text r) (going r) (written r) (o r) (number r) (numbered r) _ _ _ (asks r _ (c .before .before .before .before .before .before .before .before .before .k2 .given .1)) _ (p .0) (p .1 .0) (p .1 .1)),
 )
 
 loop-less-6 : tie.Need-loop-less-6 Inv-loop μ-loop
@@ -264,7 +270,7 @@ loop-again-6 : tie.Need-loop-again-6 Inv-loop μ-loop
 loop-again-6 c = (
   search needs,
   search needs,
-  let e = c .before .before in next e _ _ _ (search needs) (nothing-left (B (kept e)) (T (kept e)) (w (kept e)) (O (kept e)) (c .enum-told4 .given .1)),
+  let e = c .before .before in next e _ (line-is-taken e) (omega (arith, ahead e)) _ _ _ (search needs) (nothing-left (B (kept e)) (T (kept e)) (w (kept e)) (O (kept e)) (c .enum-told4 .given .1)),
 )
 
 add-at : tie.Need-add-at Inv-loop μ-loop

@@ -27,7 +27,7 @@ held-size c =
 returns : tie.Need-returns
 returns c =
     let a = c .before .before .args in
-    let none = none-said (a .r .book) (held (a .r)) (held-size (c .before) ∙ c .if1 .taken) in
+    let none = none-said (a .r .book) (held (a .r)) (omega (arith, held-size (c .before), c .if1 .taken)) in
     (ap length (sym none), (search needs, sym (ap (λ t. put 0 t (a .out .now)) none ∙ put-nothing 0 (a .out .now))))
 
 returns-2 : tie.Need-returns-2
