@@ -15,7 +15,7 @@ use Rattle.framebook.proofs.feed_all.Tie as tie
 
 abbrev Inv-loop : tie.InvT-loop
 Inv-loop piece out₀ reader₀ at₀ out reader at =
-    (at ≤ length piece) × ((mostAnswer ≤ length out₀) × (length out ≡ length out₀)) × (reader .book ≡ after (reader₀ .book) (ended (held reader₀) (take at piece))) × (held reader ≡ cut (left (held reader₀) (take at piece)))
+    (reader .book ≡ after (reader₀ .book) (ended (held reader₀) (take at piece))) × (held reader ≡ cut (left (held reader₀) (take at piece))) × (at ≤ length piece) × ((mostAnswer ≤ length out₀) × (length out ≡ length out₀))
 
 abbrev μ-loop : tie.MeasureT-loop
 μ-loop piece out₀ reader₀ at₀ out reader at = length piece - at
@@ -35,7 +35,7 @@ loop-holds c =
     let a = c .before .before .args in
     let line : length (a .r .line) ≡ mostKept = search needs in
     let before = before-any (a .r .book) (held (a .r)) (omega (arith, length-take (a .r .length) (a .r .line))) in
-    (search needs, search needs, before .0, before .1)
+    (before .0, before .1, search needs, search needs)
 
 slice-reshare-prefix-write-all : tie.Need-slice-reshare-prefix-write-all Inv-loop μ-loop
 slice-reshare-prefix-write-all c = search needs
@@ -53,16 +53,6 @@ turn c = c .before .before .before .before
 abbrev piece : tie.After-feed Inv-loop μ-loop → List ℕ
 piece c = turn c .before .before .before .args .piece .now
 
-loop-less : tie.Need-loop-less Inv-loop μ-loop
-loop-less c =
-    let f = c .before .before .before .before .before .before .before in
-    let l = turn f .loop in
-    let e = f .feed .ensures .1 in
-    let s = size-of (piece f) (l .at) in
-    let t = f .before .before .before .loop-test .taken in
-    let some = e .some (omega arith) (omega (arith, l .inv .1)) in
-    search needs
-
 loop-again : tie.Need-loop-again Inv-loop μ-loop
 loop-again c =
     let d = c .before .before .before .before .before .before .before in
@@ -72,20 +62,30 @@ loop-again c =
     let t = take (f .result .taken) (drop (l .at) (piece d)) in
     let part : take (f .result .taken) (take (length (piece d) - l .at) (drop (l .at) (piece d))) ≡ t = ap (take (f .result .taken)) (rest-of (piece d) (l .at)) in
     let next = sym (take-add (l .at) (f .result .taken) (piece d)) in
-    let more = another (r .book) (held r) (take (l .at) (piece d)) (l .reader .book) (held (l .reader)) t (l .inv .2) (l .inv .3) in
+    let more = another (r .book) (held r) (take (l .at) (piece d)) (l .reader .book) (held (l .reader)) t (l .inv .0) (l .inv .1) in
     let size = size-of (piece d) (l .at) in (
-      search needs,
-      search needs,
       f .ensures .0 .book-is ∙ ap (λ x. after (l .reader .book) (ended (held (l .reader)) x)) part ∙ more .0 ∙ ap (λ x. after (r .book) (ended (held r) x)) next,
       f .ensures .0 .line-is ∙ ap (λ x. cut (left (held (l .reader)) x)) part ∙ more .1 ∙ ap (λ x. cut (left (held r) x)) next,
+      search needs,
+      search needs,
     )
+
+loop-less : tie.Need-loop-less Inv-loop μ-loop
+loop-less c =
+    let f = c .before .before .before .before .before .before .before in
+    let l = turn f .loop in
+    let e = f .feed .ensures .1 in
+    let s = size-of (piece f) (l .at) in
+    let t = f .before .before .before .loop-test .taken in
+    let some = e .some (omega arith) (omega (arith, l .inv .3)) in
+    search needs
 
 returns-2 : tie.Need-returns-2 Inv-loop μ-loop
 returns-2 c =
     let a = c .before .before .before .before .args in
     let l = c .before .loop in
     let all : take (l .at) (a .piece .now) ≡ a .piece .now = take-all (l .at) (a .piece .now) (c .loop-test .left) in
-    ((λ t. rw all at (l .inv .2)), (λ t. rw all at (l .inv .3)))
+    ((λ t. rw all at (l .inv .0)), (λ t. rw all at (l .inv .1)))
 
 pub feed-all-spec : {M : Type 1} → statement M
 feed-all-spec =
