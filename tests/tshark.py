@@ -41,7 +41,7 @@ def header(case, address):
     control = bytes([0x08 | qos << 7, ds | source.randrange(16) << 2])
     octets = control + source.randbytes(8) + address + source.randbytes(8)
     octets += source.randbytes(6) if ds == 3 else b""
-    return octets + (bytes([case // 32 % 8 | source.choice((0x00, 0x20, 0x60)), 0]) if qos else b"")
+    return octets + (bytes([case // 32 % 16 | source.choice((0x00, 0x20, 0x60)), 0]) if qos else b"")
 
 
 def flipped(octets, places):
