@@ -141,7 +141,8 @@ fn ccmp_header(number: u64, key_id: u8) -> [u8; CCMP_HEADER] {
     [pn0, pn1, 0, EXT_IV | key_id << 6, pn2, pn3, pn4, pn5]
 }
 
-fn number_in(ccmp_header: &[u8]) -> u64 {
+/// The packet number in a CCMP header.
+pub fn number_in(ccmp_header: &[u8]) -> u64 {
     let octet = |at: usize| u64::from(ccmp_header[at]);
     octet(0) | octet(1) << 8 | octet(4) << 16 | octet(5) << 24 | octet(6) << 32 | octet(7) << 40
 }

@@ -6,3 +6,4 @@ pub mod aes;
 pub mod book;
 pub mod ccm;
 pub mod frame;
+pub mod sample;

@@ -1,58 +1,17 @@
-//! Writes one frame book for comparing two programs on it: frames to seal and to open, good, late, repeated and damaged ones, and
-//! malformed lines. The same arguments give the same octets everywhere.
+//! Writes one frame book for comparing two programs on it: frames to seal and to open, good, late, repeated, damaged and strangers' ones,
+//! and malformed lines. The same arguments give the same octets everywhere.
 //!
 //!   generate SEED LINES        a SEED of 15 modulo 16 gives a bad line 1
 #![forbid(unsafe_code)]
 
 use second::frame::{header_length, Sender, MAX_BODY, MAX_NUMBER};
+use second::sample::{Random, PROTECTED, SHORTEST_SEALED};
 use std::collections::VecDeque;
 use std::io::{self, Write};
-use std::ops::Range;
 
-const PROTECTED: u8 = 0x40;
 const ROOM: usize = 32 + MAX_BODY + 16;
-/// A sealed frame of this length has all its regions, whatever its Frame Control says.
-const SHORTEST_SEALED: usize = 32 + 1 + 16;
 /// Octets that are no digits: the neighbours of the digits, capitals, and what some readers of text take for an end.
 const NOT_DIGITS: [u8; 22] = *b"/:`g@GAFO- \t\0\r\x08\x0b\x0c\x1a\x7f\x80\x85\xff";
-
-/// SplitMix64.
-struct Random(u64);
-
-impl Random {
-    fn next(&mut self) -> u64 {
-        self.0 = self.0.wrapping_add(0x9e37_79b9_7f4a_7c15);
-        let mut z = self.0;
-        z = (z ^ z >> 30).wrapping_mul(0xbf58_476d_1ce4_e5b9);
-        z = (z ^ z >> 27).wrapping_mul(0x94d0_49bb_1331_11eb);
-        z ^ z >> 31
-    }
-
-    fn below(&mut self, bound: usize) -> usize {
-        (self.next() % bound as u64) as usize
-    }
-
-    fn one_in(&mut self, chances: usize) -> bool {
-        self.below(chances) == 0
-    }
-
-    fn pick<T: Copy>(&mut self, from: &[T]) -> T {
-        from[self.below(from.len())]
-    }
-
-    fn octets(&mut self, count: usize) -> Vec<u8> {
-        (0..count).map(|_| self.next() as u8).collect()
-    }
-
-    fn octets_below(&mut self, bound: usize) -> Vec<u8> {
-        let count = self.below(bound);
-        self.octets(count)
-    }
-
-    fn array<const N: usize>(&mut self) -> [u8; N] {
-        std::array::from_fn(|_| self.next() as u8)
-    }
-}
 
 fn digits(octets: &[u8]) -> Vec<u8> {
     let digit = |value: u8| b"0123456789abcdef"[usize::from(value)];
@@ -61,12 +20,6 @@ fn digits(octets: &[u8]) -> Vec<u8> {
 
 fn line(word: &[u8], frame: &[u8]) -> Vec<u8> {
     [word, b"\t", &digits(frame)].concat()
-}
-
-fn set_number(ccmp_header: &mut [u8], number: u64) {
-    for (octet, at) in number.to_le_bytes().into_iter().zip([0, 1, 4, 5, 6, 7]) {
-        ccmp_header[at] = octet;
-    }
 }
 
 struct Generator {
@@ -89,7 +42,7 @@ impl Generator {
         let peer = if seed / 4 % 3 == 1 { own } else { other };
         let (_, mut sender) = Sender::fresh(key, key_id, peer);
         if own != peer && random.one_in(2) {
-            sender.last_number = random.next() >> 17;
+            sender.last_number = random.draw() >> 17;
         }
         Generator { random, key, key_id, own, sender, waiting: VecDeque::new(), past: Vec::new() }
     }
@@ -128,72 +81,6 @@ impl Generator {
         fields.join(&b'\t')
     }
 
-    /// A frame that sealing takes if it is from the right address, of any header shape and with any bits that are free.
-    fn plain(&mut self, address: [u8; 6]) -> Vec<u8> {
-        let mut frame = self.random.octets(24);
-        frame[0] = frame[0] & 0xb0 | 0x08;
-        frame[1] &= !PROTECTED;
-        frame[10..16].copy_from_slice(&address);
-        let body = match self.random.below(40) {
-            0 => MAX_BODY,
-            1 => MAX_BODY - 1,
-            2 => 1 + self.random.below(MAX_BODY),
-            3 => 1,
-            _ => 1 + self.random.below(50),
-        };
-        frame.extend(self.random.octets(header_length(&frame) - 24 + body));
-        frame
-    }
-
-    fn flip(&mut self, frame: &mut [u8], places: Range<usize>) {
-        if !places.is_empty() {
-            frame[places.start + self.random.below(places.len())] ^= 1 << self.random.below(8);
-        }
-    }
-
-    /// Damage that any frame may have.
-    fn spoil(&mut self, frame: &mut Vec<u8>) {
-        let header = header_length(frame);
-        match self.random.below(8) {
-            0 => frame[0] ^= self.random.pick(&[0x01, 0x02, 0x04, 0x08, 0x0c, 0x40]),
-            1 => frame[1] ^= PROTECTED,
-            2 => self.flip(frame, 10..16),
-            3 => frame.truncate(self.random.below(41)),
-            4 => frame.truncate(self.random.pick(&[23, 24, header - 1, header, header + 1])),
-            5 => frame.resize(header + MAX_BODY + self.random.pick(&[0, 1, 16, 17]), 0x5a),
-            6 => *frame = self.random.octets_below(41),
-            _ => {
-                let at = self.random.below(frame.len());
-                frame[at] = self.random.next() as u8;
-            }
-        }
-    }
-
-    /// Damage to a sealed frame, in any of its regions.
-    fn damage(&mut self, frame: &mut Vec<u8>) {
-        let (header, end) = (header_length(frame), frame.len());
-        let text = header + 8;
-        match self.random.below(16) {
-            0 => frame[header + 3] ^= 0x40 * (1 + self.random.below(3) as u8),
-            1 => frame[header + 3] ^= 0x20,
-            2 => {
-                frame[header + 2] = self.random.next() as u8;
-                frame[header + 3] ^= self.random.below(0x20) as u8;
-            }
-            3 => set_number(&mut frame[header..], 0),
-            4 => set_number(&mut frame[header..], MAX_NUMBER - self.random.next() % 3),
-            5 => frame.truncate(header + 16 + self.random.below(3)),
-            6 | 7 => self.spoil(frame),
-            _ => {
-                let address_4 = 24..if frame[1] & 3 == 3 { 30 } else { 24 };
-                let qos = address_4.end..header;
-                let regions = [0..2, 2..4, 4..10, 10..16, 16..22, 22..24, address_4, qos, header..text, text..end - 8, end - 8..end];
-                let which = self.random.below(regions.len());
-                self.flip(frame, regions[which].clone());
-            }
-        }
-    }
-
     /// Seals by the peer's sender; what is sealed waits for its delivery.
     fn send(&mut self, frame: &[u8]) {
         let mut sealed = vec![0; ROOM];
@@ -206,12 +93,12 @@ impl Generator {
     /// Seals some frames of the peer's. Those of priorities 14 and 15 have numbers from the end of the range.
     fn send_some(&mut self) {
         for _ in 0..6 {
-            let frame = self.plain(self.sender.address);
+            let frame = self.random.plain(self.sender.address);
             let header = header_length(&frame);
             let last_number = self.sender.last_number;
             let at_the_end = frame[0] & 0x80 != 0 && frame[header - 2] & 0x0f >= 14;
             if at_the_end {
-                self.sender.last_number = MAX_NUMBER - 1 - self.random.next() % 12;
+                self.sender.last_number = MAX_NUMBER - 1 - self.random.draw() % 12;
             }
             self.send(&frame);
             if at_the_end {
@@ -240,9 +127,9 @@ impl Generator {
     }
 
     fn seal_line(&mut self) -> Vec<u8> {
-        let mut frame = self.plain(self.own);
+        let mut frame = self.random.plain(self.own);
         while frame.len() >= 24 && self.random.one_in(3) {
-            self.spoil(&mut frame);
+            self.random.spoil(&mut frame);
         }
         if self.peer_is_own() {
             self.send(&frame);
@@ -250,15 +137,28 @@ impl Generator {
         line(b"seal", &frame)
     }
 
+    /// A frame that is good but for its address, with the peer's next number.
+    fn stranger(&mut self) -> Vec<u8> {
+        let mut sender = self.sender.clone();
+        sender.address[self.random.below(6)] ^= 1 << self.random.below(8);
+        let (frame, mut sealed) = (self.random.plain(sender.address), vec![0; ROOM]);
+        let written = sender.seal(&frame, &mut sealed).map_or(0, |done| done.written);
+        sealed.truncate(written);
+        sealed
+    }
+
     fn open_line(&mut self) -> Vec<u8> {
+        if self.random.one_in(24) {
+            return line(b"open", &self.stranger());
+        }
         let Some(mut frame) = self.delivery() else {
             return self.seal_line();
         };
         if self.random.one_in(2) {
             let whole = frame.clone();
-            self.damage(&mut frame);
+            self.random.damage(&mut frame);
             while frame.len() >= SHORTEST_SEALED && self.random.one_in(3) {
-                self.damage(&mut frame);
+                self.random.damage(&mut frame);
             }
             // The whole frame may come after the damaged one, which must not have used up its number.
             if self.random.one_in(2) {
@@ -271,7 +171,7 @@ impl Generator {
     /// A line near the greatest length or far over it. It may be well formed but for that, or its tail after octet 4,800 or 4,801 may be.
     fn long_line(&mut self) -> Vec<u8> {
         let length = self.random.pick(&[4_799, 4_799, 4_799, 4_800, 4_801, 4_801, 4_801, 4_802, 4_803, 10_000, 10_001, 70_000]);
-        let mut frame = self.plain(self.own);
+        let mut frame = self.random.plain(self.own);
         frame.resize(length / 2, 0xa5);
         let mut long = line(b"seal", &frame);
         if self.random.one_in(2) {
@@ -282,7 +182,7 @@ impl Generator {
         long.truncate(length);
         if self.random.one_in(3) {
             long.resize(self.random.pick(&[4_800, 4_801]), b'0');
-            let frame = self.plain(self.own);
+            let frame = self.random.plain(self.own);
             long.extend(line(b"seal", &frame));
         }
         long
@@ -290,7 +190,7 @@ impl Generator {
 
     /// A good line made bad.
     fn malformed_line(&mut self) -> Vec<u8> {
-        let frame = self.plain(self.own);
+        let frame = self.random.plain(self.own);
         let mut bad = line(self.random.pick(&[b"seal", b"open"]), &frame);
         let digit = 5 + self.random.below(bad.len() - 5);
         match self.random.below(14) {
