@@ -22,17 +22,15 @@ SNAP = bytes.fromhex("aaaa0300000088b5")
 frames = int(sys.argv[1]) if len(sys.argv) > 1 else 512
 seed = int(sys.argv[2]) if len(sys.argv) > 2 else 1
 exported = proved.library()
-exported.bench_ccmp_seal.restype = ctypes.c_uint64
 source = random.Random(seed)
 
 
 def seal(key, key_id, address, last, frame):
-    out, size = ctypes.create_string_buffer(len(frame) + 16), ctypes.c_size_t
-    refusal = exported.bench_ccmp_seal(
-        key, ctypes.c_uint8(key_id), address, ctypes.c_uint64(last), frame, size(len(frame)), out, size(len(out))
-    )
-    if refusal:
-        sys.exit(f"seed {seed}: frame {frame.hex()} after packet number {last}: refused with {refusal}")
+    record = (ctypes.create_string_buffer(key, 16), ctypes.byref(ctypes.c_uint8(key_id)), ctypes.create_string_buffer(address, 6))
+    answer, out, size = (ctypes.c_uint64 * 4)(), ctypes.create_string_buffer(len(frame) + 16), ctypes.c_size_t
+    exported.bench_ccmp_seal(*record, ctypes.byref(ctypes.c_uint64(last)), answer, frame, size(len(frame)), out, size(len(out)))
+    if answer[0]:
+        sys.exit(f"seed {seed}: frame {frame.hex()} after packet number {last}: refused with {answer[0]}")
     return out.raw
 
 

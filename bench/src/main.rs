@@ -1,7 +1,5 @@
 //! Times the proved code against `second` on the same work in one run. Each figure is the least of many runs, taken in turn.
 
-mod proved;
-
 use second::aes::Aes128;
 use second::ccm::Ccm;
 use second::frame::{Receiver, Sender};
@@ -97,16 +95,15 @@ fn frame(length: usize) {
     let (mut ours, mut theirs) = (vec![0; plain.len() + 16], vec![0; plain.len() + 16]);
 
     let times = compare(
-        || (0..FRAMES).for_each(|_| assert_eq!(proved::ccmp_seal(black_box(&key), key_id, &address, last, &plain, &mut ours), 0)),
+        || (0..FRAMES).for_each(|_| assert_eq!(proved::seal(&mut black_box(&sender).clone(), &plain, &mut ours)[0], 0)),
         || (0..FRAMES).for_each(|_| assert!(black_box(&sender).clone().seal(&plain, &mut theirs).is_ok())),
     );
     assert_eq!(ours, theirs);
     report(&format!("frame: {length} octets sealed"), FRAMES, times);
 
     let sealed = ours.clone();
-    let replay = receiver.replay_counters;
     let times = compare(
-        || (0..FRAMES).for_each(|_| assert_eq!(proved::ccmp_open(black_box(&key), key_id, &address, &replay, &sealed, &mut ours), 0)),
+        || (0..FRAMES).for_each(|_| assert_eq!(proved::open(&mut black_box(&receiver).clone(), &sealed, &mut ours)[0], 0)),
         || (0..FRAMES).for_each(|_| assert!(black_box(&receiver).clone().open(&sealed, &mut theirs).is_ok())),
     );
     assert_eq!(ours[..plain.len()], plain);

@@ -189,6 +189,11 @@ impl Receiver {
         (Ok(Done::default()), Receiver { key, key_id, peer, ..Self::default() })
     }
 
+    /// Format errors, replays, decrypt errors, opened.
+    pub fn counts(&self) -> [u32; 4] {
+        [self.format_errors, self.replays, self.decrypt_errors, self.opened]
+    }
+
     fn is_sound(&self) -> bool {
         self.key_id <= 3 && self.replay_counters.iter().all(|&counter| counter <= MAX_NUMBER)
     }

@@ -1,9 +1,13 @@
 -- Outcomes as numbers and records from their fields, for C.
 use mathlib.Core.List.{List, [], _∷_}
 use Prim.Native.Nat.{ℕ}
+use lib.ListN.{getD}
 use Rattle.ccm.specs.declared.Outcome.{Outcome}
 use Rattle.ccm.specs.declared.Outcome.the-variants.{Done, Refused}
+use Rattle.rules.specs.Answers.{told}
 use Rattle.rules.specs.Records.{newSender, newReceiver}
+use Rattle.rules.specs.declared.Answer.{Answer}
+use Rattle.rules.specs.declared.Counts.{Counts}
 use Rattle.rules.specs.declared.Receiver.{Receiver}
 use Rattle.rules.specs.declared.Sender.{Sender}
 
@@ -12,20 +16,32 @@ abbrev pub number : Outcome → ℕ
 number (Done n) = n
 number Refused = 0xffff_ffff_ffff_ffff
 
--- a sender with this last number, and a receiver with these replay counters
+-- a sender with this last number
 abbrev pub withLast : Sender → ℕ → Sender
 withLast s last = record { key = s .key; «key_id» = s .«key_id»; address = s .address; last = last }
-
-abbrev pub withCounters : Receiver → List ℕ → Receiver
-withCounters r replay = record { key = r .key; «key_id» = r .«key_id»; peer = r .peer; replay = replay; counts = r .counts }
 
 abbrev pub sender : List ℕ → ℕ → List ℕ → ℕ → Sender
 sender key keyId address last = withLast (newSender key keyId address) last
 
-abbrev pub receiver : List ℕ → ℕ → List ℕ → List ℕ → Receiver
-receiver key keyId peer replay = withCounters (newReceiver key keyId peer) replay
+-- format errors, replays, decrypt errors, opened
+abbrev pub countsOf : List ℕ → Counts
+countsOf counts =
+    record { «format_errors» = getD counts 0 0; replays = getD counts 1 0; «decrypt_errors» = getD counts 2 0; opened = getD counts 3 0 }
 
--- the number an answer is told by
-abbrev pub first : List ℕ → ℕ
-first [] = 0
-first (n ∷ _) = n
+-- a receiver with these replay counters and counts
+abbrev pub withCounters : Receiver → List ℕ → List ℕ → Receiver
+withCounters r replay counts =
+    record { key = r .key; «key_id» = r .«key_id»; peer = r .peer; replay = replay; counts = countsOf counts }
+
+abbrev pub receiver : List ℕ → ℕ → List ℕ → List ℕ → List ℕ → Receiver
+receiver key keyId peer replay counts = withCounters (newReceiver key keyId peer) replay counts
+
+-- four numbers, zeros after a first one that stands alone
+abbrev pub padded : List ℕ → List ℕ
+padded [] = 0 ∷ 0 ∷ 0 ∷ 0 ∷ []
+padded (n ∷ []) = n ∷ 0 ∷ 0 ∷ 0 ∷ []
+padded (n ∷ m ∷ ns) = n ∷ m ∷ ns
+
+-- what an answer is told by, in four numbers
+abbrev pub parts : Answer → List ℕ
+parts a = padded (told a)

@@ -1,15 +1,13 @@
 // What the timings and the comparisons with outside programs call: the library's functions, exported to C.
 use ccm::Outcome;
-use rules::Answer;
 ghost use mathlib.Core.Path.{_≡_};
 ghost use Rattle.aes.specs.Cipher.{cipher};
 ghost use Rattle.aes.specs.KeyExpansion.{keyExpansion, aes128};
 ghost use Rattle.ccm.specs.Ccm.{sealed, opened};
 ghost use Rattle.ccm.specs.Room.{fitting, outcome, written};
-ghost use Rattle.rules.specs.Answers.{told};
-ghost use Rattle.rules.specs.Opening.{openAnswer, openOutput};
-ghost use Rattle.rules.specs.Sealing.{sealAnswer, sealOutput};
-ghost use Rattle.bench.specs.Numbers.{number, first, sender, receiver};
+ghost use Rattle.bench.specs.Numbers.{number};
+
+mod frames; // frames.rt: fresh records, sealing and opening
 
 #[no_mangle]
 pub extern "C" fn bench_aes_expand(key: &[u8; 16], w: &mut [u8; 176])
@@ -65,58 +63,4 @@ pub extern "C" fn bench_ccm_open(
         now (out .exit) ≡ written (now (out .entry)) (fitting (now (out .entry)) (opened (aes128 (now (key .entry))) 8 (now (nonce .entry)) (now (aad .entry)) (now (text .entry)))) ⌝ }
 {
     numbered(ccm::open(*key, *nonce, aad, text, out))
-}
-
-// Sealing by a sender of these fields: the number of the answer, 0 where it is done.
-#[no_mangle]
-pub extern "C" fn bench_ccmp_seal(
-    key: &[u8; 16],
-    key_id: u8,
-    address: &[u8; 6],
-    last: u64,
-    frame: &[u8],
-    out: &mut [u8],
-) -> u64
-    ensures { λ r. ⌜
-        r ≡ first (told (sealAnswer (sender (now (key .entry)) «key_id» (now (address .entry)) last) (now (frame .entry)) (now (out .entry)))) ⌝ }
-    ensures { λ _. ⌜
-        now (out .exit) ≡ sealOutput (sender (now (key .entry)) «key_id» (now (address .entry)) last) (now (frame .entry)) (now (out .entry)) ⌝ }
-{
-    let mut s = ccmp::new_sender(*key, key_id, *address);
-    s.last = last;
-    let sealed = ccmp::seal(s, frame, out);
-    let answer = sealed.answer;
-    numbered_answer(answer)
-}
-
-// Opening by a receiver of these fields, its counts at 0.
-#[no_mangle]
-pub extern "C" fn bench_ccmp_open(
-    key: &[u8; 16],
-    key_id: u8,
-    peer: &[u8; 6],
-    replay: &[u64; 16],
-    frame: &[u8],
-    out: &mut [u8],
-) -> u64
-    ensures { λ r. ⌜
-        r ≡ first (told (openAnswer (receiver (now (key .entry)) «key_id» (now (peer .entry)) (now (replay .entry))) (now (frame .entry)) (now (out .entry)))) ⌝ }
-    ensures { λ _. ⌜
-        now (out .exit) ≡ openOutput (receiver (now (key .entry)) «key_id» (now (peer .entry)) (now (replay .entry))) (now (frame .entry)) (now (out .entry)) ⌝ }
-{
-    let mut r = ccmp::new_receiver(*key, key_id, *peer);
-    let counters = *replay;
-    r.replay = counters;
-    let opened = ccmp::open(r, frame, out);
-    let answer = opened.answer;
-    numbered_answer(answer)
-}
-
-fn numbered_answer(a: Answer) -> u64
-    ensures { λ r. ⌜ r ≡ first (told a) ⌝ }
-{
-    match a {
-        Answer::Done(_, _, _) => 0,
-        Answer::Refused(x) => x as u64,
-    }
 }

@@ -1,0 +1,103 @@
+//! The proved code for Rust: what `crates/bench` exports.
+
+use second::frame::{Receiver, Sender};
+
+/// A slice passes as a pointer and a length.
+pub mod exported {
+    extern "C" {
+        pub fn bench_aes_expand(key: &[u8; 16], w: &mut [u8; 176]);
+        pub fn bench_aes_encrypt(w: &[u8; 176], block: &mut [u8; 16]);
+        pub fn bench_ccm_seal(
+            key: &[u8; 16], nonce: &[u8; 13], aad: *const u8, aad_len: usize, body: *const u8, body_len: usize, out: *mut u8, out_len: usize,
+        ) -> u64;
+        pub fn bench_ccm_open(
+            key: &[u8; 16], nonce: &[u8; 13], aad: *const u8, aad_len: usize, text: *const u8, text_len: usize, out: *mut u8, out_len: usize,
+        ) -> u64;
+        pub fn bench_fresh_sender(key: &mut [u8; 16], key_id: &mut u8, address: &mut [u8; 6], last: &mut u64, answer: &mut [u64; 4]);
+        pub fn bench_fresh_receiver(
+            key: &mut [u8; 16], key_id: &mut u8, peer: &mut [u8; 6], replay: &mut [u64; 16], counts: &mut [u32; 4], answer: &mut [u64; 4],
+        );
+        pub fn bench_ccmp_seal(
+            key: &mut [u8; 16], key_id: &mut u8, address: &mut [u8; 6], last: &mut u64, answer: &mut [u64; 4], frame: *const u8, frame_len: usize,
+            out: *mut u8, out_len: usize,
+        );
+        pub fn bench_ccmp_open(
+            key: &mut [u8; 16], key_id: &mut u8, peer: &mut [u8; 6], replay: &mut [u64; 16], counts: &mut [u32; 4], answer: &mut [u64; 4],
+            frame: *const u8, frame_len: usize, out: *mut u8, out_len: usize,
+        );
+    }
+}
+
+// In each call below the declarations above are those of crates/bench, and its functions are proved for every input.
+
+#[inline]
+pub fn expand(key: &[u8; 16]) -> [u8; 176] {
+    let mut w = [0; 176];
+    unsafe { exported::bench_aes_expand(key, &mut w) };
+    w
+}
+
+#[inline]
+pub fn encrypt(w: &[u8; 176], block: &[u8; 16]) -> [u8; 16] {
+    let mut out = *block;
+    unsafe { exported::bench_aes_encrypt(w, &mut out) };
+    out
+}
+
+fn written(number: u64) -> Option<usize> {
+    (number != u64::MAX).then_some(number as usize)
+}
+
+pub fn ccm_seal(key: &[u8; 16], nonce: &[u8; 13], aad: &[u8], body: &[u8], out: &mut [u8]) -> Option<usize> {
+    written(unsafe { exported::bench_ccm_seal(key, nonce, aad.as_ptr(), aad.len(), body.as_ptr(), body.len(), out.as_mut_ptr(), out.len()) })
+}
+
+pub fn ccm_open(key: &[u8; 16], nonce: &[u8; 13], aad: &[u8], text: &[u8], out: &mut [u8]) -> Option<usize> {
+    written(unsafe { exported::bench_ccm_open(key, nonce, aad.as_ptr(), aad.len(), text.as_ptr(), text.len(), out.as_mut_ptr(), out.len()) })
+}
+
+/// The answer's number, and the packet number, the priority and the octets written, which are 0 after a refusal.
+pub type Told = [u64; 4];
+
+// What the fields of an answer hold before a call.
+const UNTOLD: Told = [u64::MAX; 4];
+
+fn set_counts(r: &mut Receiver, counts: [u32; 4]) {
+    [r.format_errors, r.replays, r.decrypt_errors, r.opened] = counts;
+}
+
+/// Makes a sender with the key, key ID and address that are in `s`.
+pub fn fresh_sender(s: &mut Sender) -> Told {
+    let mut told = UNTOLD;
+    unsafe { exported::bench_fresh_sender(&mut s.key, &mut s.key_id, &mut s.address, &mut s.last_number, &mut told) };
+    told
+}
+
+/// Makes a receiver with the key, key ID and address that are in `r`.
+pub fn fresh_receiver(r: &mut Receiver) -> Told {
+    let (mut counts, mut told) = (r.counts(), UNTOLD);
+    unsafe { exported::bench_fresh_receiver(&mut r.key, &mut r.key_id, &mut r.peer, &mut r.replay_counters, &mut counts, &mut told) };
+    set_counts(r, counts);
+    told
+}
+
+pub fn seal(s: &mut Sender, frame: &[u8], out: &mut [u8]) -> Told {
+    let (mut told, into) = (UNTOLD, out.as_mut_ptr());
+    unsafe {
+        exported::bench_ccmp_seal(
+            &mut s.key, &mut s.key_id, &mut s.address, &mut s.last_number, &mut told, frame.as_ptr(), frame.len(), into, out.len(),
+        )
+    };
+    told
+}
+
+pub fn open(r: &mut Receiver, frame: &[u8], out: &mut [u8]) -> Told {
+    let (mut counts, mut told, into) = (r.counts(), UNTOLD, out.as_mut_ptr());
+    unsafe {
+        exported::bench_ccmp_open(
+            &mut r.key, &mut r.key_id, &mut r.peer, &mut r.replay_counters, &mut counts, &mut told, frame.as_ptr(), frame.len(), into, out.len(),
+        )
+    };
+    set_counts(r, counts);
+    told
+}

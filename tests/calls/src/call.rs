@@ -1,0 +1,133 @@
+//! A call on either program, and what it leaves.
+
+use proved::Told;
+use second::frame::{Answer, Receiver, Sender};
+use std::fmt;
+
+/// In the numbers of a record before it is made afresh.
+const STALE: u64 = 0xa5a5_a5a5_a5a5_a5a5;
+
+pub enum Call {
+    FreshSender { key: [u8; 16], key_id: u8, address: [u8; 6] },
+    FreshReceiver { key: [u8; 16], key_id: u8, peer: [u8; 6] },
+    Seal { sender: Sender, frame: Vec<u8>, room: Vec<u8> },
+    Open { receiver: Receiver, frame: Vec<u8>, room: Vec<u8> },
+}
+
+/// The answer, the record handed back and the room as it is afterwards.
+#[derive(PartialEq)]
+pub struct Left {
+    pub told: Told,
+    pub record: Record,
+    pub room: Vec<u8>,
+}
+
+#[derive(Clone, PartialEq, Eq)]
+pub enum Record {
+    Sender(Sender),
+    Receiver(Receiver),
+}
+
+impl Call {
+    pub fn name(&self) -> &'static str {
+        match self {
+            Call::FreshSender { .. } => "fresh sender",
+            Call::FreshReceiver { .. } => "fresh receiver",
+            Call::Seal { .. } => "seal",
+            Call::Open { .. } => "open",
+        }
+    }
+
+    /// What the proved code leaves.
+    pub fn by_proved(&self) -> Left {
+        match self {
+            Call::FreshSender { key, key_id, address } => {
+                let mut sender = Sender { key: *key, key_id: *key_id, address: *address, last_number: STALE };
+                let told = proved::fresh_sender(&mut sender);
+                Left { told, record: Record::Sender(sender), room: Vec::new() }
+            }
+            Call::FreshReceiver { key, key_id, peer } => {
+                let stale = Receiver { replay_counters: [STALE; 16], opened: STALE as u32, ..Receiver::default() };
+                let mut receiver = Receiver { key: *key, key_id: *key_id, peer: *peer, ..stale };
+                let told = proved::fresh_receiver(&mut receiver);
+                Left { told, record: Record::Receiver(receiver), room: Vec::new() }
+            }
+            Call::Seal { sender, frame, room } => {
+                let (mut sender, mut room) = (sender.clone(), room.clone());
+                let told = proved::seal(&mut sender, frame, &mut room);
+                Left { told, record: Record::Sender(sender), room }
+            }
+            Call::Open { receiver, frame, room } => {
+                let (mut receiver, mut room) = (receiver.clone(), room.clone());
+                let told = proved::open(&mut receiver, frame, &mut room);
+                Left { told, record: Record::Receiver(receiver), room }
+            }
+        }
+    }
+
+    /// What `second` leaves.
+    pub fn by_second(&self) -> Left {
+        match self {
+            Call::FreshSender { key, key_id, address } => {
+                let (answer, sender) = Sender::fresh(*key, *key_id, *address);
+                Left { told: told(answer), record: Record::Sender(sender), room: Vec::new() }
+            }
+            Call::FreshReceiver { key, key_id, peer } => {
+                let (answer, receiver) = Receiver::fresh(*key, *key_id, *peer);
+                Left { told: told(answer), record: Record::Receiver(receiver), room: Vec::new() }
+            }
+            Call::Seal { sender, frame, room } => {
+                let (mut sender, mut room) = (sender.clone(), room.clone());
+                let answer = sender.seal(frame, &mut room);
+                Left { told: told(answer), record: Record::Sender(sender), room }
+            }
+            Call::Open { receiver, frame, room } => {
+                let (mut receiver, mut room) = (receiver.clone(), room.clone());
+                let answer = receiver.open(frame, &mut room);
+                Left { told: told(answer), record: Record::Receiver(receiver), room }
+            }
+        }
+    }
+}
+
+fn told(answer: Answer) -> Told {
+    match answer {
+        Ok(done) => [0, done.number, done.priority.into(), done.written as u64],
+        Err(refusal) => [refusal as u64, 0, 0, 0],
+    }
+}
+
+fn hex(octets: &[u8]) -> String {
+    octets.iter().map(|octet| format!("{octet:02x}")).collect()
+}
+
+impl fmt::Display for Record {
+    fn fmt(&self, f: &mut fmt::Formatter) -> fmt::Result {
+        match self {
+            Record::Sender(s) => write!(f, "key {} key ID {} address {} last {:x}", hex(&s.key), s.key_id, hex(&s.address), s.last_number),
+            Record::Receiver(r) => {
+                write!(f, "key {} key ID {} peer {} replay {:x?} ", hex(&r.key), r.key_id, hex(&r.peer), r.replay_counters)?;
+                write!(f, "counts {:x?}", r.counts())
+            }
+        }
+    }
+}
+
+impl fmt::Display for Call {
+    fn fmt(&self, f: &mut fmt::Formatter) -> fmt::Result {
+        write!(f, "{}: ", self.name())?;
+        let (record, frame, room) = match self {
+            Call::FreshSender { key, key_id, address } => return write!(f, "key {} key ID {key_id} address {}", hex(key), hex(address)),
+            Call::FreshReceiver { key, key_id, peer } => return write!(f, "key {} key ID {key_id} peer {}", hex(key), hex(peer)),
+            Call::Seal { sender, frame, room } => (Record::Sender(sender.clone()), frame, room),
+            Call::Open { receiver, frame, room } => (Record::Receiver(receiver.clone()), frame, room),
+        };
+        write!(f, "{record}\n  frame {}\n  room {}", hex(frame), hex(room))
+    }
+}
+
+impl fmt::Display for Left {
+    fn fmt(&self, f: &mut fmt::Formatter) -> fmt::Result {
+        write!(f, "{:x?}, {}\n  room {}", self.told, self.record, hex(&self.room))
+    }
+}
