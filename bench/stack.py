@@ -1,6 +1,7 @@
 #!/usr/bin/env python3
-"""The most stack that one seal and one open of a frame take: each function's return address, pushes and room for locals, along the deepest
-chain of calls. `memcpy` is the platform's and not counted.
+"""The most stack that one seal and one open of a frame can take by the compiled code: each function's return address, pushes, room for locals
+and what it uses below the stack pointer (x86-64 gives a function that calls no other 128 octets there), along the deepest chain of calls.
+`memcpy` is the platform's and not counted. bench/src/bin/stack.rs measures what calls do take.
 
   rt staticlib bench && bench/stack.py        needs objdump
 """
@@ -16,7 +17,8 @@ for section in re.split(r"\n(?=[0-9a-f]+ <)", text):
         name = named[1]
         pushes = len(re.findall(r"\bpush ", section))
         room = sum(int(n, 16) for n in re.findall(r"\bsub +\$(0x[0-9a-f]+),%rsp", section))
-        frames[name] = 8 + 8 * pushes + room
+        below = max((int(n, 16) for n in re.findall(r"-(0x[0-9a-f]+)\(%rsp", section)), default=0)
+        frames[name] = 8 + 8 * pushes + room + below
         calls[name] = set(re.findall(r"\bcall .*\n.*R_X86_64_\w+\s+(?:\.text\.)?([^\s+-]+)", section))
 
 
