@@ -1,7 +1,7 @@
 #!/usr/bin/env python3
 """The most stack that one seal and one open of a frame can take by the compiled code: each function's return address, pushes, room for locals
 and what it uses below the stack pointer (x86-64 gives a function that calls no other 128 octets there), along the deepest chain of calls.
-`memcpy` is the platform's and not counted. bench/src/bin/stack.rs measures what calls do take.
+`memcpy` and `memset` are the platform's and not counted. bench/src/bin/stack.rs measures what calls do take.
 
   rt staticlib bench && bench/stack.py        needs objdump
 """
