@@ -6,7 +6,7 @@ use Prim.Native.Nat.{ℕ, _+_, _≤_}
 use native.Mathlib.Nat.{add-zero}
 use native.Mathlib.Omega.{arith}
 use lib.ListN.{length, take, length-replicate, take-append-drop}
-use Rattle.rules.specs.Limits.{added}
+use Rattle.rules.specs.Mode.{added}
 use Rattle.rules.specs.Records.{freshSender, freshReceiver, senderNext, receiverNext}
 use Rattle.rules.specs.Answers.{told, answerNumber}
 use Rattle.rules.specs.Sealing.{sealedFrame, sealAnswer, sealOutput}

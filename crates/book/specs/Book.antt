@@ -4,7 +4,7 @@ use mathlib.Core.List.{List, [], _∷_}
 use Prim.Native.Nat.{ℕ, _+_, _%_, _^_}
 use lib.ListN.{length, take, getD, replicate}
 use Rattle.octets.specs.Options.{contents}
-use Rattle.rules.specs.Limits.{added}
+use Rattle.rules.specs.Mode.{added}
 use Rattle.rules.specs.Records.{zeroSender, zeroReceiver, freshSender, freshReceiver, senderNext, receiverNext}
 use Rattle.rules.specs.Answers.{answerNumber}
 use Rattle.rules.specs.Sealing.{sealAnswer, sealOutput}

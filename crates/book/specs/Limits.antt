@@ -1,6 +1,6 @@
 -- Document 01, "The frame book": the longest line, and what follows from it.
 use Prim.Native.Nat.{ℕ, _+_, _*_, _/_}
-use Rattle.rules.specs.Limits.{added}
+use Rattle.rules.specs.Mode.{added}
 
 -- the octets of a line without its line feed
 abbrev pub mostLine : ℕ

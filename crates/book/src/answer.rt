@@ -7,6 +7,7 @@ use crate::hex::put_hex;
 use crate::line::MOST_LINE;
 use crate::line::keys_of;
 use crate::put::put_text;
+use ccmp::ADDED;
 use rules::Answer;
 use rules::Receiver;
 use rules::Sender;
@@ -25,8 +26,6 @@ ghost use Rattle.book.specs.Handed.{answerText, octetsWritten};
 // The octets of a line's frame at most, of its result, to which sealing adds some, and of the answer: two numbers, a word
 // between tabs, a tab, the result's digits and a line feed.
 pub(crate) const MOST_FRAME: usize = MOST_LINE / 2;
-
-const ADDED: usize = 16;
 
 pub(crate) const MOST_RESULT: usize = MOST_FRAME + ADDED;
 

@@ -4,7 +4,7 @@ use Prim.Native.Nat.{_+_, _≤_}
 use native.Mathlib.Omega.{arith}
 use lib.ListN.{length}
 use borrow.Author.Needs.{needs}
-use Rattle.rules.specs.Limits.{added}
+use Rattle.rules.specs.Mode.{added}
 use Rattle.rules.specs.Records.{receiverNext}
 use Rattle.book.specs.Limits.{mostResult}
 use Rattle.book.specs.Handed.{octetsWritten}
