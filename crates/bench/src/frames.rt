@@ -5,9 +5,9 @@ use rules::Counts;
 use rules::Receiver;
 use rules::Sender;
 ghost use mathlib.Core.Path.{_≡_};
-ghost use Rattle.rules.specs.Opening.{openAnswer, openOutput};
-ghost use Rattle.rules.specs.Records.{freshAnswer, freshSender, freshReceiver, senderNext, receiverNext};
-ghost use Rattle.rules.specs.Sealing.{sealAnswer, sealOutput};
+ghost use Rattle.rules.specs.Opening.{openAnswer, openNext, openOutput};
+ghost use Rattle.rules.specs.Records.{freshAnswer, freshSender, freshReceiver};
+ghost use Rattle.rules.specs.Sealing.{sealAnswer, sealNext, sealOutput};
 ghost use Rattle.bench.specs.Numbers.{sender, receiver, parts};
 
 // The answer's number, and the packet number, the priority and the octets written, which are 0 after a refusal.
@@ -89,8 +89,7 @@ pub extern "C" fn bench_ccmp_seal(
         ≡ parts (sealAnswer (sender (now (key .entry)) (now («key_id» .entry)) (now (address .entry)) (now (last .entry))) (now (frame .entry)) (now (out .entry))) ⌝ }
     ensures { λ _. ⌜
         sender (now (key .exit)) (now («key_id» .exit)) (now (address .exit)) (now (last .exit))
-        ≡ senderNext (sender (now (key .entry)) (now («key_id» .entry)) (now (address .entry)) (now (last .entry)))
-        (sealAnswer (sender (now (key .entry)) (now («key_id» .entry)) (now (address .entry)) (now (last .entry))) (now (frame .entry)) (now (out .entry))) ⌝ }
+        ≡ sealNext (sender (now (key .entry)) (now («key_id» .entry)) (now (address .entry)) (now (last .entry))) (now (frame .entry)) (now (out .entry)) ⌝ }
     ensures { λ _. ⌜
         now (out .exit)
         ≡ sealOutput (sender (now (key .entry)) (now («key_id» .entry)) (now (address .entry)) (now (last .entry))) (now (frame .entry)) (now (out .entry)) ⌝ }
@@ -153,8 +152,7 @@ pub extern "C" fn bench_ccmp_open(
         ≡ parts (openAnswer (receiver (now (key .entry)) (now («key_id» .entry)) (now (peer .entry)) (now (replay .entry)) (now (counts .entry))) (now (frame .entry)) (now (out .entry))) ⌝ }
     ensures { λ _. ⌜
         receiver (now (key .exit)) (now («key_id» .exit)) (now (peer .exit)) (now (replay .exit)) (now (counts .exit))
-        ≡ receiverNext (receiver (now (key .entry)) (now («key_id» .entry)) (now (peer .entry)) (now (replay .entry)) (now (counts .entry)))
-        (openAnswer (receiver (now (key .entry)) (now («key_id» .entry)) (now (peer .entry)) (now (replay .entry)) (now (counts .entry))) (now (frame .entry)) (now (out .entry))) ⌝ }
+        ≡ openNext (receiver (now (key .entry)) (now («key_id» .entry)) (now (peer .entry)) (now (replay .entry)) (now (counts .entry))) (now (frame .entry)) (now (out .entry)) ⌝ }
     ensures { λ _. ⌜
         now (out .exit)
         ≡ openOutput (receiver (now (key .entry)) (now («key_id» .entry)) (now (peer .entry)) (now (replay .entry)) (now (counts .entry))) (now (frame .entry)) (now (out .entry)) ⌝ }

@@ -7,10 +7,10 @@ use native.Mathlib.Nat.{add-zero}
 use native.Mathlib.Omega.{arith}
 use lib.ListN.{length, take, length-replicate, take-append-drop}
 use Rattle.rules.specs.Mode.{added}
-use Rattle.rules.specs.Records.{freshSender, freshReceiver, senderNext, receiverNext}
+use Rattle.rules.specs.Records.{freshSender, freshReceiver}
 use Rattle.rules.specs.Answers.{told, answerNumber}
-use Rattle.rules.specs.Sealing.{sealedFrame, sealAnswer, sealOutput}
-use Rattle.rules.specs.Opening.{openedFrame, openAnswer, openOutput}
+use Rattle.rules.specs.Sealing.{sealedFrame, sealAnswer, sealNext, sealOutput}
+use Rattle.rules.specs.Opening.{openedFrame, openAnswer, openNext, openOutput}
 use Rattle.rules.specs.declared.Sender.{Sender}
 use Rattle.rules.specs.declared.Receiver.{Receiver}
 use Rattle.rules.specs.declared.Answer.{Answer}
@@ -134,13 +134,13 @@ module _ (b : Book) (line : List ℕ) (going : b .stage ≡ Going) (at : ℕ) (o
   unfolding afterAsked answerTo
   bad-left is ee oe = as-asked b line going malformed is at o _ end out (rw (next, going)) (rw next at ee) (rw next at oe)
 
-  pub sealed-left : (f : List ℕ) → sealing f ≡ asked (fields line) → (s : Sender) → s ≡ senderNext (b .sender) (sealAnswer (b .sender) f (roomFor f))
+  pub sealed-left : (f : List ℕ) → sealing f ≡ asked (fields line) → (s : Sender) → s ≡ sealNext (b .sender) f (roomFor f)
       → end ≡ at + length (sealLine n (b .sender) f) → out ≡ put at (sealLine n (b .sender) f) o
       → Left b line at o (record { lines = n; stage = b .stage; sender = s; receiver = b .receiver }) end out
   unfolding afterAsked answerTo
   sealed-left f is s se ee oe = as-asked b line going (sealing f) is at o _ end out (rw (next, going, se)) (rw next at ee) (rw next at oe)
 
-  pub opened-left : (f : List ℕ) → opening f ≡ asked (fields line) → (r : Receiver) → r ≡ receiverNext (b .receiver) (openAnswer (b .receiver) f (roomFor f))
+  pub opened-left : (f : List ℕ) → opening f ≡ asked (fields line) → (r : Receiver) → r ≡ openNext (b .receiver) f (roomFor f)
       → end ≡ at + length (openLine n (b .receiver) f) → out ≡ put at (openLine n (b .receiver) f) o
       → Left b line at o (record { lines = n; stage = b .stage; sender = b .sender; receiver = r }) end out
   unfolding afterAsked answerTo

@@ -5,10 +5,10 @@ use Prim.Native.Nat.{ℕ, _+_, _%_, _^_}
 use lib.ListN.{length, take, getD, replicate}
 use Rattle.octets.specs.Options.{contents}
 use Rattle.rules.specs.Mode.{added}
-use Rattle.rules.specs.Records.{zeroSender, zeroReceiver, freshSender, freshReceiver, senderNext, receiverNext}
+use Rattle.rules.specs.Records.{zeroSender, zeroReceiver, freshSender, freshReceiver}
 use Rattle.rules.specs.Answers.{answerNumber}
-use Rattle.rules.specs.Sealing.{sealAnswer, sealOutput}
-use Rattle.rules.specs.Opening.{openAnswer, openOutput}
+use Rattle.rules.specs.Sealing.{sealAnswer, sealNext, sealOutput}
+use Rattle.rules.specs.Opening.{openAnswer, openNext, openOutput}
 use Rattle.rules.specs.declared.Sender.{Sender}
 use Rattle.rules.specs.declared.Receiver.{Receiver}
 use Rattle.rules.specs.declared.Answer.{Answer}
@@ -72,8 +72,8 @@ answerTo b (opening f) = openLine (lineNumber b) (b .receiver) f
 
 unfoldable pub afterAsked : Book → Asked → Book
 afterAsked b malformed = turned b Going (b .sender) (b .receiver)
-afterAsked b (sealing f) = turned b Going (senderNext (b .sender) (sealAnswer (b .sender) f (roomFor f))) (b .receiver)
-afterAsked b (opening f) = turned b Going (b .sender) (receiverNext (b .receiver) (openAnswer (b .receiver) f (roomFor f)))
+afterAsked b (sealing f) = turned b Going (sealNext (b .sender) f (roomFor f)) (b .receiver)
+afterAsked b (opening f) = turned b Going (b .sender) (openNext (b .receiver) f (roomFor f))
 
 -- a good line 1 makes the two records and writes nothing; a bad one ends the run
 unfoldable pub begun : Book → List (List ℕ) → Book

@@ -14,9 +14,8 @@ use rules::Sender;
 ghost use mathlib.Core.Path.{_≡_};
 ghost use Prim.Native.Nat.{_+_, _≤_};
 ghost use lib.ListN.{length};
-ghost use Rattle.rules.specs.Records.{senderNext, receiverNext};
-ghost use Rattle.rules.specs.Sealing.{sealAnswer};
-ghost use Rattle.rules.specs.Opening.{openAnswer};
+ghost use Rattle.rules.specs.Sealing.{sealNext};
+ghost use Rattle.rules.specs.Opening.{openNext};
 ghost use Rattle.book.specs.Limits.{mostAnswer, mostResult, mostFrame, wordOctets};
 ghost use Rattle.book.specs.Put.{put};
 ghost use Rattle.book.specs.Line.{fields};
@@ -91,7 +90,7 @@ pub(crate) fn seal_line(
     at: usize,
 ) -> SealTurn
     requires { ⌜ (at + mostAnswer ≤ length (now out)) × (length (now frame) ≤ mostFrame) × (length (now result) ≡ mostResult) ⌝ }
-    ensures { λ r. ⌜ r .sender ≡ senderNext s (sealAnswer s (now (frame .entry)) (roomFor (now (frame .entry)))) ⌝ }
+    ensures { λ r. ⌜ r .sender ≡ sealNext s (now (frame .entry)) (roomFor (now (frame .entry))) ⌝ }
     ensures { λ r. ⌜ r .end ≡ at + length (sealLine n s (now (frame .entry))) ⌝ }
     ensures { λ _. ⌜ now (out .exit) ≡ put at (sealLine n s (now (frame .entry))) (now (out .entry)) ⌝ }
 {
@@ -112,7 +111,7 @@ pub(crate) fn open_line(
     at: usize,
 ) -> OpenTurn
     requires { ⌜ (at + mostAnswer ≤ length (now out)) × (length (now frame) ≤ mostFrame) × (length (now result) ≡ mostResult) ⌝ }
-    ensures { λ o. ⌜ o .receiver ≡ receiverNext r (openAnswer r (now (frame .entry)) (roomFor (now (frame .entry)))) ⌝ }
+    ensures { λ o. ⌜ o .receiver ≡ openNext r (now (frame .entry)) (roomFor (now (frame .entry))) ⌝ }
     ensures { λ o. ⌜ o .end ≡ at + length (openLine n r (now (frame .entry))) ⌝ }
     ensures { λ _. ⌜ now (out .exit) ≡ put at (openLine n r (now (frame .entry))) (now (out .entry)) ⌝ }
 {

@@ -11,8 +11,8 @@ use Rattle.rules.specs.Mode.{added}
 use Rattle.rules.specs.Records.{senderNext, receiverNext}
 use Rattle.rules.specs.Answers.{told, firstOf, noneApplies}
 use Rattle.rules.specs.Tests.{bodyOf, codeTest}
-use Rattle.rules.specs.Sealing.{sealedFrame, sealTests, sealAnswer, sealOutput}
-use Rattle.rules.specs.Opening.{openedFrame, earlierTests, openAnswer, openOutput}
+use Rattle.rules.specs.Sealing.{sealedFrame, sealTests, sealAnswer, sealNext, sealOutput}
+use Rattle.rules.specs.Opening.{openedFrame, earlierTests, openAnswer, openNext, openOutput}
 use Rattle.rules.specs.declared.Header.{Header}
 use Rattle.rules.specs.declared.Sender.{Sender}
 use Rattle.rules.specs.declared.Receiver.{Receiver}
@@ -25,10 +25,10 @@ use Rattle.ccmp.proofs.Verdicts.{refused}
 
 -- what a call hands back: its answer, the record and the output
 abbrev pub Sealed : Sender → List ℕ → List ℕ → Answer → Sender → List ℕ → Type 0
-Sealed s f o a t out = (told a ≡ told (sealAnswer s f o)) × ((t ≡ senderNext s (sealAnswer s f o)) × (out ≡ sealOutput s f o))
+Sealed s f o a t out = (told a ≡ told (sealAnswer s f o)) × ((t ≡ sealNext s f o) × (out ≡ sealOutput s f o))
 
 abbrev pub Opened : Receiver → List ℕ → List ℕ → Answer → Receiver → List ℕ → Type 0
-Opened r f o a t out = (told a ≡ told (openAnswer r f o)) × ((t ≡ receiverNext r (openAnswer r f o)) × (out ≡ openOutput r f o))
+Opened r f o a t out = (told a ≡ told (openAnswer r f o)) × ((t ≡ openNext r f o) × (out ≡ openOutput r f o))
 
 module _ (s : Sender) (f o : List ℕ) where
   abbrev sealedDone : Answer

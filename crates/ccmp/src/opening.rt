@@ -27,10 +27,10 @@ ghost use Rattle.octets.specs.Options.{isNone};
 ghost use Rattle.rules.specs.Header.{headerOf};
 ghost use Rattle.rules.specs.Nonce.{number};
 ghost use Rattle.rules.specs.Mode.{added};
-ghost use Rattle.rules.specs.Records.{soundReceiver, receiverNext};
+ghost use Rattle.rules.specs.Records.{soundReceiver};
 ghost use Rattle.rules.specs.Answers.{told};
 ghost use Rattle.rules.specs.Tests.{headerTests, bodyOf};
-ghost use Rattle.rules.specs.Opening.{openedFrame, earlierTests, openAnswer, openOutput, Openable};
+ghost use Rattle.rules.specs.Opening.{openedFrame, earlierTests, openAnswer, openNext, openOutput, Openable};
 ghost use Rattle.ccmp.specs.Verdict.{verdict};
 
 // Tests 5 to 10, after those of the record and of the header.
@@ -100,7 +100,7 @@ fn put_opened(r: Receiver, n: u64, header: Header, frame: &[u8], out: &mut [u8])
 // counter, and nothing is written before the integrity code is found right.
 pub fn open(r: Receiver, frame: &[u8], out: &mut [u8]) -> Opened
     ensures { λ o. ⌜ told (o .answer) ≡ told (openAnswer r (now (frame .entry)) (now (out .entry))) ⌝ }
-    ensures { λ o. ⌜ o .receiver ≡ receiverNext r (openAnswer r (now (frame .entry)) (now (out .entry))) ⌝ }
+    ensures { λ o. ⌜ o .receiver ≡ openNext r (now (frame .entry)) (now (out .entry)) ⌝ }
     ensures { λ _. ⌜ now (out .exit) ≡ openOutput r (now (frame .entry)) (now (out .entry)) ⌝ }
 {
     match open_tests(r, frame, out.len()) {

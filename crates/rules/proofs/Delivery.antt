@@ -10,7 +10,7 @@ use lib.Dec.{leb}
 use lib.ListN.{length, take, getD}
 use Rattle.rules.specs.Limits.{mostNumber, mostKeyId}
 use Rattle.rules.specs.Records.{newSender, newReceiver, freshAnswer, freshSender, freshReceiver, senderNext}
-use Rattle.rules.specs.Sealing.{sealedFrame, sealAnswer}
+use Rattle.rules.specs.Sealing.{sealedFrame, sealAnswer, sealNext}
 use Rattle.rules.specs.Opening.{openAnswer, openOutput}
 use Rattle.rules.specs.Calls.{Call, at, OctetFrames, sealRun, openRun, openAnswerAt}
 use Rattle.rules.specs.Demand2.{Match}
@@ -40,7 +40,7 @@ next-alike s (Refused a) = record { key-is = refl; id-is = refl; address-is = re
 pub run-alike : (s : Sender) (cs : List Call) → Alike (sealRun s cs) s
 run-alike s [] = record { key-is = refl; id-is = refl; address-is = refl }
 run-alike s (c ∷ cs) =
-    let a = run-alike (senderNext s (sealAnswer s (c .frame) (c .room))) cs in
+    let a = run-alike (sealNext s (c .frame) (c .room)) cs in
     let b = next-alike s (sealAnswer s (c .frame) (c .room)) in
     record { key-is = a .key-is ∙ b .key-is; id-is = a .id-is ∙ b .id-is; address-is = a .address-is ∙ b .address-is }
 

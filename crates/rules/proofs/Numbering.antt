@@ -15,7 +15,7 @@ use Rattle.rules.specs.Nonce.{number}
 use Rattle.rules.specs.Mode.{added}
 use Rattle.rules.specs.Records.{soundSender, freshAnswer, newSender, senderNext}
 use Rattle.rules.specs.Answers.{answerNumber}
-use Rattle.rules.specs.Sealing.{sealTests, sealAnswer}
+use Rattle.rules.specs.Sealing.{sealTests, sealAnswer, sealNext}
 use Rattle.rules.specs.Calls.{Call, noCall, at, sealRun, sealAnswerAt, sealOutputAt}
 use Rattle.rules.specs.Counts.{bit, howMany}
 use Rattle.rules.specs.Numbers.{doneBefore, Numbered, Numbers}
@@ -32,7 +32,7 @@ told-by (Done n p k) = true
 told-by (Refused a) = not (eqb a 0)
 
 -- a call moves the last number by one where it is done, and leaves it where it is refused
-steps : (s : Sender) (f room : List ℕ) → senderNext s (sealAnswer s f room) .last ≡ s .last + bit (eqb (answerNumber (sealAnswer s f room)) 0)
+steps : (s : Sender) (f room : List ℕ) → sealNext s f room .last ≡ s .last + bit (eqb (answerNumber (sealAnswer s f room)) 0)
 unfolding sealAnswer senderNext
 steps s f room =
     go (sealAnswer s f room) (of-first told-by (sealTests s f (length room)) (Done (s .last + 1) (priority f) (length f + added)) tt tt)
@@ -47,9 +47,9 @@ steps s f room =
 
 run-append : (s : Sender) (cs ds : List Call) → sealRun s (cs ++ ds) ≡ sealRun (sealRun s cs) ds
 run-append s [] ds = refl
-run-append s (c ∷ cs) ds = run-append (senderNext s (sealAnswer s (c .frame) (c .room))) cs ds
+run-append s (c ∷ cs) ds = run-append (sealNext s (c .frame) (c .room)) cs ds
 
-keeps-sound : (s : Sender) (f room : List ℕ) → soundSender s ≡ true → soundSender (senderNext s (sealAnswer s f room)) ≡ true
+keeps-sound : (s : Sender) (f room : List ℕ) → soundSender s ≡ true → soundSender (sealNext s f room) ≡ true
 unfolding soundSender senderNext
 keeps-sound s f room sound = go (sealAnswer s f room) refl
   where
@@ -61,7 +61,7 @@ keeps-sound s f room sound = go (sealAnswer s f room) refl
 
 run-sound : (s : Sender) (cs : List Call) → soundSender s ≡ true → soundSender (sealRun s cs) ≡ true
 run-sound s [] sound = sound
-run-sound s (c ∷ cs) sound = run-sound (senderNext s (sealAnswer s (c .frame) (c .room))) cs (keeps-sound s (c .frame) (c .room) sound)
+run-sound s (c ∷ cs) sound = run-sound (sealNext s (c .frame) (c .room)) cs (keeps-sound s (c .frame) (c .room) sound)
 
 more : (b : ℕ → Bool) (i j : ℕ) → i < j → b i ≡ true → howMany i b < howMany j b
 more b i zero l e = absurd (not-suc-le-zero l)

@@ -5,10 +5,9 @@ use mathlib.Core.Bool.{true, cond}
 use mathlib.Core.List.{List, [], _∷_}
 use Prim.Native.Nat.{ℕ, _+_, _%_}
 use Rattle.rules.specs.Limits.{countLimit}
-use Rattle.rules.specs.Records.{senderNext, receiverNext}
 use Rattle.rules.specs.Answers.{among, answerNumber}
-use Rattle.rules.specs.Sealing.{sealAnswer, sealOutput}
-use Rattle.rules.specs.Opening.{openAnswer, openOutput}
+use Rattle.rules.specs.Sealing.{sealAnswer, sealNext, sealOutput}
+use Rattle.rules.specs.Opening.{openAnswer, openNext, openOutput}
 use Rattle.rules.specs.declared.Sender.{Sender}
 use Rattle.rules.specs.declared.Receiver.{Receiver}
 use Rattle.rules.specs.declared.Counts.{Counts}
@@ -64,5 +63,5 @@ pub record OpeningKeeps (r : Receiver) (room : List ℕ) (a : Answer) (t : Recei
 
 abbrev pub Demand1 : Type 0
 Demand1 =
-    ((s : Sender) (f room : List ℕ) → SealingKeeps s room (sealAnswer s f room) (senderNext s (sealAnswer s f room)) (sealOutput s f room))
-    × ((r : Receiver) (f room : List ℕ) → OpeningKeeps r room (openAnswer r f room) (receiverNext r (openAnswer r f room)) (openOutput r f room))
+    ((s : Sender) (f room : List ℕ) → SealingKeeps s room (sealAnswer s f room) (sealNext s f room) (sealOutput s f room))
+    × ((r : Receiver) (f room : List ℕ) → OpeningKeeps r room (openAnswer r f room) (openNext r f room) (openOutput r f room))

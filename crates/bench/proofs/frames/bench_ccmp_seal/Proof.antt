@@ -1,8 +1,7 @@
 -- The contract of `seal` on the record that is made, its answer in four numbers.
 use mathlib.Core.Path.{ap, _∙_}
 use borrow.Author.Needs.{needs}
-use Rattle.rules.specs.Records.{senderNext}
-use Rattle.rules.specs.Sealing.{sealAnswer, sealOutput}
+use Rattle.rules.specs.Sealing.{sealAnswer, sealNext, sealOutput}
 use Rattle.rules.specs.declared.Sender.{Sender}
 use Rattle.bench.specs.Numbers.{padded, parts}
 use Rattle.bench.proofs.frames.bench_ccmp_seal.Statement.{statement}
@@ -19,7 +18,7 @@ returns c =
     let made = c₃ .sender-of .ensures in
     let sealed = c₂ .seal .ensures in (
       c₁ .parts-of .ensures ∙ ap padded (sealed .0) ∙ ap (λ (s : Sender). parts (sealAnswer s f o)) made,
-      (sealed .1 .0 ∙ ap (λ (s : Sender). senderNext s (sealAnswer s f o)) made, sealed .1 .1 ∙ ap (λ (s : Sender). sealOutput s f o) made),
+      (sealed .1 .0 ∙ ap (λ (s : Sender). sealNext s f o) made, sealed .1 .1 ∙ ap (λ (s : Sender). sealOutput s f o) made),
     )
 
 pub bench-ccmp-seal-spec : {M : Type 1} → statement M
