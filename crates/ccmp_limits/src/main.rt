@@ -443,7 +443,9 @@ fn print_fresh(record: &[u8], asked: u8, a: Answer, zeros: bool, key_id: u8) {
     show::number(asked as u64);
     show::text(b": ");
     match a {
-        Answer::Done(_, _, _) => show::text(b"done"),
+        Answer::Done(_, _, _) => {
+            show::text(b"done");
+        }
         Answer::Refused(x) => {
             show::text(b"refused ");
             show::number(x as u64);

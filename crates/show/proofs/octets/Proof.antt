@@ -1,4 +1,4 @@
--- The loop stays inside the slice.
+-- The loop stays inside the slice, and ends at its length.
 use Prim.Native.Nat.{_≤_, _-_}
 use lib.ListN.{length}
 use borrow.Author.Needs.{needs}
