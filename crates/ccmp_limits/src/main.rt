@@ -1,14 +1,21 @@
 // The limit cases of the frame rules: sizes, room, numbers, replays, records, and the order of the tests.
 // What this must print, the file stdout, was taken from document 01; ` | 01: ` is the answer that it gives, 0 for done.
+use ccmp::ADDED;
+use ccmp::MOST_BODY;
+use ccmp::MOST_NUMBER;
 use rules::Answer;
 use rules::Counts;
 use rules::Receiver;
 use rules::Sender;
-ghost use Prim.Native.Nat.{_≤_, _<_};
+ghost use Prim.Native.Nat.{_+_, _≤_, _<_};
+ghost use Rattle.rules.specs.Limits.{mostHeader, mostBody};
+ghost use Rattle.rules.specs.Mode.{added};
+ghost use Rattle.ccmp_limits.specs.Size.{size};
 
-// The greatest packet number, and the greatest count.
-const MOST: u64 = 281474976710655;
+// The octets of an array, more than a frame or its text can have.
+const SIZE: usize = MOST_BODY + 104;
 
+// The greatest count.
 const MOST_COUNT: u32 = 4294967295;
 
 fn zero_counters(replay: [u64; 16]) -> bool {
@@ -59,9 +66,9 @@ fn written(a: Answer) -> usize {
 }
 
 // Whether the output is as it was from octet k on.
-fn print_rest(out: [u8; 2400], k: usize) {
-    if k <= 2400 {
-        let before = [0xaau8; 2400];
+fn print_rest(out: [u8; SIZE], k: usize) {
+    if k <= SIZE {
+        let before = [0xaau8; SIZE];
         if octets::equal(&out[k..], &before[k..]) {
             show::text(b", rest kept");
             return;
@@ -71,11 +78,11 @@ fn print_rest(out: [u8; 2400], k: usize) {
 }
 
 // Whether what was written is the original.
-fn print_original(out: [u8; 2400], k: usize, original: [u8; 2400]) {
+fn print_original(out: [u8; SIZE], k: usize, original: [u8; SIZE]) {
     if k == 0 {
         return;
     }
-    if k <= 2400 {
+    if k <= SIZE {
         if octets::equal(&out[0..k], &original[0..k]) {
             show::text(b", original");
             return;
@@ -91,10 +98,10 @@ fn print_expected(expected: u64) {
 }
 
 // Seals the first n octets of the frame with this room, and prints the rest of the line.
-fn seals(s: Sender, frame: [u8; 2400], n: usize, room: usize, expected: u64) -> Sender
-    requires { ⌜ (n ≤ 2400) × (room ≤ 2400) ⌝ }
+fn seals(s: Sender, frame: [u8; SIZE], n: usize, room: usize, expected: u64) -> Sender
+    requires { ⌜ (n ≤ size) × (room ≤ size) ⌝ }
 {
-    let mut out = [0xaau8; 2400];
+    let mut out = [0xaau8; SIZE];
     let sealed = ccmp::seal(s, &frame[0..n], &mut out[0..room]);
     let answer = sealed.answer;
     let next = sealed.sender;
@@ -109,15 +116,15 @@ fn seals(s: Sender, frame: [u8; 2400], n: usize, room: usize, expected: u64) -> 
 // Opens the first n octets of the text with this room, and prints the rest of the line.
 fn opens(
     r: Receiver,
-    text: [u8; 2400],
+    text: [u8; SIZE],
     n: usize,
     room: usize,
-    original: [u8; 2400],
+    original: [u8; SIZE],
     expected: u64,
 ) -> Receiver
-    requires { ⌜ (n ≤ 2400) × (room ≤ 2400) ⌝ }
+    requires { ⌜ (n ≤ size) × (room ≤ size) ⌝ }
 {
-    let mut out = [0xaau8; 2400];
+    let mut out = [0xaau8; SIZE];
     let opened = ccmp::open(r, &text[0..n], &mut out[0..room]);
     let answer = opened.answer;
     let next = opened.receiver;
@@ -154,10 +161,10 @@ fn receiver(p: usize, n: u64) -> Receiver
     r
 }
 
-fn filled() -> [u8; 2400] {
-    let mut octets = [0u8; 2400];
+fn filled() -> [u8; SIZE] {
+    let mut octets = [0u8; SIZE];
     let mut i: usize = 0;
-    while i < 2400 {
+    while i < SIZE {
         octets[i] = (i % 251) as u8;
         i += 1;
     }
@@ -166,7 +173,7 @@ fn filled() -> [u8; 2400] {
 
 // A plain frame of the sender's with this Frame Control, longer than any that is sealed. Its priority is 6 where QoS
 // Control stands at 24, and 9 where it stands at 30.
-fn plain(low: u8, high: u8) -> [u8; 2400] {
+fn plain(low: u8, high: u8) -> [u8; SIZE] {
     let mut frame = filled();
     frame[0] = low;
     frame[1] = high;
@@ -182,8 +189,8 @@ fn plain(low: u8, high: u8) -> [u8; 2400] {
 }
 
 // The frame with octet i changed to x.
-fn with(frame: [u8; 2400], i: usize, x: u8) -> [u8; 2400]
-    requires { ⌜ i < 2400 ⌝ }
+fn with(frame: [u8; SIZE], i: usize, x: u8) -> [u8; SIZE]
+    requires { ⌜ i < size ⌝ }
 {
     let mut changed = frame;
     changed[i] = x;
@@ -191,54 +198,54 @@ fn with(frame: [u8; 2400], i: usize, x: u8) -> [u8; 2400]
 }
 
 // The first n octets of the frame sealed by a sender with this last number.
-fn text_of(frame: [u8; 2400], n: usize, last: u64) -> [u8; 2400]
-    requires { ⌜ n ≤ 2400 ⌝ }
+fn text_of(frame: [u8; SIZE], n: usize, last: u64) -> [u8; SIZE]
+    requires { ⌜ n ≤ size ⌝ }
 {
     let s = sender(last);
-    let mut out = [0u8; 2400];
+    let mut out = [0u8; SIZE];
     ccmp::seal(s, &frame[0..n], &mut out);
     out
 }
 
 // A body of this many octets sealed, after a header of h.
-fn seal_size(frame: [u8; 2400], h: usize, body: usize, expected: u64)
-    requires { ⌜ (h ≤ 32) × (body ≤ 2297) ⌝ }
+fn seal_size(frame: [u8; SIZE], h: usize, body: usize, expected: u64)
+    requires { ⌜ (h ≤ mostHeader) × (body ≤ mostBody + 1) ⌝ }
 {
     show::text(b"header ");
     show::number(h as u64);
     show::text(b", seal body ");
     show::number(body as u64);
     show::text(b": ");
-    seals(sender(0), frame, h + body, 2400, expected);
+    seals(sender(0), frame, h + body, SIZE, expected);
 }
 
 // A text opened that has this many octets more than its header of h.
-fn open_size(text: [u8; 2400], h: usize, more: usize, frame: [u8; 2400], expected: u64)
-    requires { ⌜ (h ≤ 32) × (more ≤ 2313) ⌝ }
+fn open_size(text: [u8; SIZE], h: usize, more: usize, frame: [u8; SIZE], expected: u64)
+    requires { ⌜ (h ≤ mostHeader) × (more ≤ mostBody + added + 1) ⌝ }
 {
     show::text(b"header ");
     show::number(h as u64);
     show::text(b", open ");
     show::number(more as u64);
     show::text(b" more: ");
-    opens(receiver(0, 0), text, h + more, 2400, frame, expected);
+    opens(receiver(0, 0), text, h + more, SIZE, frame, expected);
 }
 
 // The limits of the body, for one length of header.
 fn sizes(low: u8, high: u8, h: usize)
-    requires { ⌜ h ≤ 32 ⌝ }
+    requires { ⌜ h ≤ mostHeader ⌝ }
 {
     let frame = plain(low, high);
     let least = text_of(frame, h + 1, 0);
-    let most = text_of(frame, h + 2296, 0);
+    let most = text_of(frame, h + MOST_BODY, 0);
     seal_size(frame, h, 0, 5);
     seal_size(frame, h, 1, 0);
-    seal_size(frame, h, 2296, 0);
-    seal_size(frame, h, 2297, 5);
-    open_size(least, h, 16, frame, 5);
-    open_size(least, h, 17, frame, 0);
-    open_size(most, h, 2312, frame, 0);
-    open_size(most, h, 2313, frame, 5);
+    seal_size(frame, h, MOST_BODY, 0);
+    seal_size(frame, h, MOST_BODY + 1, 5);
+    open_size(least, h, ADDED, frame, 5);
+    open_size(least, h, ADDED + 1, frame, 0);
+    open_size(most, h, MOST_BODY + ADDED, frame, 0);
+    open_size(most, h, MOST_BODY + ADDED + 1, frame, 5);
 }
 
 // Room for one octet too few, and for just enough.
@@ -261,14 +268,14 @@ fn rooms() {
 fn last_number() {
     let frame = plain(0x08, 0x00);
     show::text(b"seal after 2^48 - 2: ");
-    let spent = seals(sender(MOST - 1), frame, 25, 2400, 0);
+    let spent = seals(sender(MOST_NUMBER - 1), frame, 25, SIZE, 0);
     show::text(b"seal once more: ");
-    seals(spent, frame, 25, 2400, 12);
-    let text = text_of(frame, 25, MOST - 1);
+    seals(spent, frame, 25, SIZE, 12);
+    let text = text_of(frame, 25, MOST_NUMBER - 1);
     show::text(b"open number 2^48 - 1: ");
-    let r = opens(receiver(0, 0), text, 41, 2400, frame, 0);
+    let r = opens(receiver(0, 0), text, 41, SIZE, frame, 0);
     show::text(b"open it again: ");
-    opens(r, text, 41, 2400, frame, 10);
+    opens(r, text, 41, SIZE, frame, 10);
 }
 
 fn replays() {
@@ -276,16 +283,16 @@ fn replays() {
     let other = plain(0x08, 0x00);
     let r = receiver(6, 7);
     show::text(b"counter 7, open number 7: ");
-    opens(r, text_of(frame, 27, 6), 43, 2400, frame, 10);
+    opens(r, text_of(frame, 27, 6), 43, SIZE, frame, 10);
     show::text(b"counter 7, open number 8: ");
-    opens(r, text_of(frame, 27, 7), 43, 2400, frame, 0);
+    opens(r, text_of(frame, 27, 7), 43, SIZE, frame, 0);
     show::text(b"counter 7 of another priority, open number 1: ");
-    opens(r, text_of(other, 25, 0), 41, 2400, other, 0);
+    opens(r, text_of(other, 25, 0), 41, SIZE, other, 0);
     let zero = with(text_of(frame, 27, 0), 26, 0);
     show::text(b"counter 7, open number 0: ");
-    opens(r, zero, 43, 2400, frame, 10);
+    opens(r, zero, 43, SIZE, frame, 10);
     show::text(b"counter 0, open number 0: ");
-    opens(receiver(0, 0), zero, 43, 2400, frame, 10);
+    opens(receiver(0, 0), zero, 43, SIZE, frame, 10);
 }
 
 // Each answer of sealing. One sender goes from call to call.
@@ -294,37 +301,37 @@ fn seal_answers() {
     let fresh = ccmp::fresh_sender(key(), 2, address());
     let s = fresh.sender;
     show::text(b"seal 23 octets: ");
-    let s = seals(s, frame, 23, 2400, 2);
+    let s = seals(s, frame, 23, SIZE, 2);
     show::text(b"seal version 1: ");
-    let s = seals(s, plain(0x09, 0x00), 25, 2400, 3);
+    let s = seals(s, plain(0x09, 0x00), 25, SIZE, 3);
     show::text(b"seal type 0: ");
-    let s = seals(s, plain(0xb0, 0x00), 25, 2400, 3);
+    let s = seals(s, plain(0xb0, 0x00), 25, SIZE, 3);
     show::text(b"seal a frame with no data: ");
-    let s = seals(s, plain(0x48, 0x00), 25, 2400, 3);
+    let s = seals(s, plain(0x48, 0x00), 25, SIZE, 3);
     show::text(b"seal a protected frame: ");
-    let s = seals(s, plain(0x08, 0x40), 25, 2400, 4);
+    let s = seals(s, plain(0x08, 0x40), 25, SIZE, 4);
     show::text(b"seal 31 octets of header 32: ");
-    let s = seals(s, plain(0x88, 0x03), 31, 2400, 2);
+    let s = seals(s, plain(0x88, 0x03), 31, SIZE, 2);
     show::text(b"seal no body: ");
-    let s = seals(s, frame, 24, 2400, 5);
+    let s = seals(s, frame, 24, SIZE, 5);
     show::text(b"seal with no room: ");
     let s = seals(s, frame, 25, 0, 6);
     show::text(b"seal another's frame: ");
-    let s = seals(s, with(frame, 15, 9), 25, 2400, 7);
+    let s = seals(s, with(frame, 15, 9), 25, SIZE, 7);
     seal_answers_later(s, frame);
 }
 
-fn seal_answers_later(s: Sender, frame: [u8; 2400]) {
+fn seal_answers_later(s: Sender, frame: [u8; SIZE]) {
     show::text(b"seal: ");
-    let mut s = seals(s, frame, 25, 2400, 0);
+    let mut s = seals(s, frame, 25, SIZE, 0);
     show::text(b"seal again: ");
-    s = seals(s, frame, 25, 2400, 0);
-    s.last = MOST;
+    s = seals(s, frame, 25, SIZE, 0);
+    s.last = MOST_NUMBER;
     show::text(b"seal, spent: ");
-    s = seals(s, frame, 25, 2400, 12);
+    s = seals(s, frame, 25, SIZE, 12);
     s.key_id = 4;
     show::text(b"seal, not sound: ");
-    seals(s, frame, 25, 2400, 1);
+    seals(s, frame, 25, SIZE, 1);
 }
 
 // Each answer of opening. One receiver goes from call to call.
@@ -334,48 +341,48 @@ fn open_answers() {
     let fresh = ccmp::fresh_receiver(key(), 2, address());
     let r = fresh.receiver;
     show::text(b"open 23 octets: ");
-    let r = opens(r, text, 23, 2400, frame, 2);
+    let r = opens(r, text, 23, SIZE, frame, 2);
     show::text(b"open version 1: ");
-    let r = opens(r, with(text, 0, 0x09), 41, 2400, frame, 3);
+    let r = opens(r, with(text, 0, 0x09), 41, SIZE, frame, 3);
     show::text(b"open type 0: ");
-    let r = opens(r, with(text, 0, 0xb0), 41, 2400, frame, 3);
+    let r = opens(r, with(text, 0, 0xb0), 41, SIZE, frame, 3);
     show::text(b"open a frame with no data: ");
-    let r = opens(r, with(text, 0, 0x48), 41, 2400, frame, 3);
+    let r = opens(r, with(text, 0, 0x48), 41, SIZE, frame, 3);
     show::text(b"open a plain frame: ");
-    let r = opens(r, with(text, 1, 0), 41, 2400, frame, 4);
+    let r = opens(r, with(text, 1, 0), 41, SIZE, frame, 4);
     show::text(b"open 31 octets of header 32: ");
-    let r = opens(r, plain(0x88, 0x43), 31, 2400, frame, 2);
+    let r = opens(r, plain(0x88, 0x43), 31, SIZE, frame, 2);
     show::text(b"open with a body of 0: ");
-    let r = opens(r, text, 40, 2400, frame, 5);
+    let r = opens(r, text, 40, SIZE, frame, 5);
     show::text(b"open with no room: ");
     let r = opens(r, text, 41, 0, frame, 6);
     show::text(b"open another's frame: ");
-    let r = opens(r, with(text, 15, 9), 41, 2400, frame, 7);
+    let r = opens(r, with(text, 15, 9), 41, SIZE, frame, 7);
     open_answers_later(r, frame, text);
 }
 
-fn open_answers_later(r: Receiver, frame: [u8; 2400], text: [u8; 2400]) {
+fn open_answers_later(r: Receiver, frame: [u8; SIZE], text: [u8; SIZE]) {
     show::text(b"open with ExtIV 0: ");
-    let r = opens(r, with(text, 27, 0x80), 41, 2400, frame, 8);
+    let r = opens(r, with(text, 27, 0x80), 41, SIZE, frame, 8);
     show::text(b"open with key ID 1: ");
-    let r = opens(r, with(text, 27, 0x60), 41, 2400, frame, 9);
+    let r = opens(r, with(text, 27, 0x60), 41, SIZE, frame, 9);
     show::text(b"open number 0: ");
-    let r = opens(r, with(text, 24, 0), 41, 2400, frame, 10);
+    let r = opens(r, with(text, 24, 0), 41, SIZE, frame, 10);
     show::text(b"open under another number: ");
-    let r = opens(r, with(text, 24, 2), 41, 2400, frame, 11);
+    let r = opens(r, with(text, 24, 2), 41, SIZE, frame, 11);
     show::text(b"open with A1 damaged: ");
-    let r = opens(r, with(text, 4, 0xff), 41, 2400, frame, 11);
+    let r = opens(r, with(text, 4, 0xff), 41, SIZE, frame, 11);
     show::text(b"open with the text damaged: ");
-    let r = opens(r, with(text, 32, text[32] ^ 1), 41, 2400, frame, 11);
+    let r = opens(r, with(text, 32, text[32] ^ 1), 41, SIZE, frame, 11);
     show::text(b"open with the code damaged: ");
-    let r = opens(r, with(text, 40, text[40] ^ 1), 41, 2400, frame, 11);
+    let r = opens(r, with(text, 40, text[40] ^ 1), 41, SIZE, frame, 11);
     show::text(b"open: ");
-    let r = opens(r, text, 41, 2400, frame, 0);
+    let r = opens(r, text, 41, SIZE, frame, 0);
     show::text(b"open it again: ");
-    let mut r = opens(r, text, 41, 2400, frame, 10);
+    let mut r = opens(r, text, 41, SIZE, frame, 10);
     r.key_id = 4;
     show::text(b"open, not sound: ");
-    opens(r, text, 41, 2400, frame, 1);
+    opens(r, text, 41, SIZE, frame, 1);
 }
 
 // Records at the limits of soundness and past them.
@@ -384,12 +391,12 @@ fn senders() {
     let mut s = sender(0);
     s.key_id = 3;
     show::text(b"seal, key ID 3: ");
-    seals(s, frame, 25, 2400, 0);
+    seals(s, frame, 25, SIZE, 0);
     s.key_id = 4;
     show::text(b"seal, key ID 4: ");
-    seals(s, frame, 25, 2400, 1);
+    seals(s, frame, 25, SIZE, 1);
     show::text(b"seal, last number 2^48: ");
-    seals(sender(MOST + 1), frame, 25, 2400, 1);
+    seals(sender(MOST_NUMBER + 1), frame, 25, SIZE, 1);
 }
 
 fn receivers() {
@@ -398,11 +405,11 @@ fn receivers() {
     let mut r = receiver(0, 0);
     r.key_id = 4;
     show::text(b"open, key ID 4: ");
-    opens(r, text, 41, 2400, frame, 1);
+    opens(r, text, 41, SIZE, frame, 1);
     show::text(b"open, a replay counter of 2^48 - 1: ");
-    opens(receiver(15, MOST), text, 41, 2400, frame, 0);
+    opens(receiver(15, MOST_NUMBER), text, 41, SIZE, frame, 0);
     show::text(b"open, a replay counter of 2^48: ");
-    opens(receiver(15, MOST + 1), text, 41, 2400, frame, 1);
+    opens(receiver(15, MOST_NUMBER + 1), text, 41, SIZE, frame, 1);
 }
 
 fn zero_sender(s: Sender) -> bool {
@@ -492,13 +499,13 @@ fn seal_order() {
     let mut unsound = s;
     unsound.key_id = 4;
     show::text(b"seal, not sound, 23 octets: ");
-    seals(unsound, frame, 23, 2400, 1);
+    seals(unsound, frame, 23, SIZE, 1);
     show::text(b"seal, 23 octets, no data: ");
-    seals(s, plain(0x48, 0x00), 23, 2400, 2);
+    seals(s, plain(0x48, 0x00), 23, SIZE, 2);
     show::text(b"seal, no data, protected: ");
-    seals(s, plain(0x48, 0x40), 25, 2400, 3);
+    seals(s, plain(0x48, 0x40), 25, SIZE, 3);
     show::text(b"seal, protected, 31 octets of header 32: ");
-    seals(s, plain(0x88, 0x43), 31, 2400, 4);
+    seals(s, plain(0x88, 0x43), 31, SIZE, 4);
     show::text(b"seal, 31 octets of header 32, no room: ");
     seals(s, plain(0x88, 0x03), 31, 0, 2);
     show::text(b"seal, no body, no room: ");
@@ -506,7 +513,7 @@ fn seal_order() {
     show::text(b"seal, room 40, another's frame: ");
     seals(s, with(frame, 15, 9), 25, 40, 6);
     show::text(b"seal, another's frame, spent: ");
-    seals(sender(MOST), with(frame, 15, 9), 25, 41, 7);
+    seals(sender(MOST_NUMBER), with(frame, 15, 9), 25, 41, 7);
 }
 
 fn open_order() {
@@ -515,19 +522,19 @@ fn open_order() {
     let mut unsound = r;
     unsound.key_id = 4;
     show::text(b"open, not sound, 23 octets: ");
-    opens(unsound, frame, 23, 2400, frame, 1);
+    opens(unsound, frame, 23, SIZE, frame, 1);
     show::text(b"open, 23 octets, no data: ");
-    opens(r, plain(0x48, 0x40), 23, 2400, frame, 2);
+    opens(r, plain(0x48, 0x40), 23, SIZE, frame, 2);
     show::text(b"open, no data, not protected: ");
-    opens(r, plain(0x48, 0x00), 41, 2400, frame, 3);
+    opens(r, plain(0x48, 0x00), 41, SIZE, frame, 3);
     show::text(b"open, not protected, 31 octets of header 32: ");
-    opens(r, plain(0x88, 0x03), 31, 2400, frame, 4);
+    opens(r, plain(0x88, 0x03), 31, SIZE, frame, 4);
     show::text(b"open, 31 octets of header 32, no room: ");
     opens(r, plain(0x88, 0x43), 31, 0, frame, 2);
     open_order_later(r, frame);
 }
 
-fn open_order_later(r: Receiver, frame: [u8; 2400]) {
+fn open_order_later(r: Receiver, frame: [u8; SIZE]) {
     let text = text_of(frame, 25, 0);
     let other = with(text, 15, 9);
     show::text(b"open, a body of 0, no room: ");
@@ -560,13 +567,13 @@ fn counts() {
     show::text(b"full counts, open with no room: ");
     r = opens(r, text, 41, 0, frame, 6);
     show::text(b"full counts, open 23 octets: ");
-    r = opens(r, text, 23, 2400, frame, 2);
+    r = opens(r, text, 23, SIZE, frame, 2);
     show::text(b"full counts, open number 0: ");
-    r = opens(r, with(text, 24, 0), 41, 2400, frame, 10);
+    r = opens(r, with(text, 24, 0), 41, SIZE, frame, 10);
     show::text(b"full counts, open under another number: ");
-    r = opens(r, with(text, 24, 2), 41, 2400, frame, 11);
+    r = opens(r, with(text, 24, 2), 41, SIZE, frame, 11);
     show::text(b"full counts, open: ");
-    opens(r, text, 41, 2400, frame, 0);
+    opens(r, text, 41, SIZE, frame, 0);
 }
 
 fn main() {
