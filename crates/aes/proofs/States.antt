@@ -1,6 +1,6 @@
 -- From one column to the state, and from one round to the next.
 use mathlib.Core.Path.{_≡_, refl, ap, _∙_}
-use mathlib.Core.List.{List, [], _∷_}
+use mathlib.Core.List.{List, [], _∷_, _++_}
 use Prim.Native.Nat.{ℕ, suc, _+_, _-_, _≤_}
 use native.Mathlib.Omega.{arith}
 use lib.Bits.{bitXor}
@@ -8,6 +8,10 @@ use Rattle.aes.specs.Cipher.{subBytes, shiftRows, mixColumn, mixColumns,
 use Rattle.aes.specs.KeyExpansion.{rotWord, xorWord}
 use Rattle.aes.specs.Word.{bytes, products}
 use Rattle.aes.proofs.Bytes.{added}
+
+-- a state of which the columns are known
+pub columns-are : {a b c d a′ b′ c′ d′ : List ℕ} → a ≡ a′ → b ≡ b′ → c ≡ c′ → d ≡ d′ → a ++ (b ++ (c ++ d)) ≡ a′ ++ (b′ ++ (c′ ++ d′))
+columns-are p q r s = λ i. p i ++ (q i ++ (r i ++ s i))
 
 -- a column of MixColumns is the sum of four products, each turned by its row
 pub mixed : (x y z u p q s t : ℕ) → bytes x ≡ products p → bytes y ≡ rotWord (rotWord (rotWord (products q)))

@@ -1,15 +1,12 @@
 -- A column is four bytes of the block in their order.
-use mathlib.Core.List.{_++_}
 use borrow.Author.Needs.{needs}
+use Rattle.aes.proofs.States.{columns-are}
 use Rattle.aes.proofs.rounds.load.Statement.{statement}
 use Rattle.aes.proofs.rounds.load.Tie as tie
 
 returns : tie.Need-returns
 returns c =
-    let c₃ = c .before in
-    let c₂ = c₃ .before in
-    let c₁ = c₂ .before in
-    λ i. c₁ .pack .ensures i ++ (c₂ .pack2 .ensures i ++ (c₃ .pack3 .ensures i ++ c .pack4 .ensures i))
+    columns-are (c .before .before .before .pack .ensures) (c .before .before .pack2 .ensures) (c .before .pack3 .ensures) (c .pack4 .ensures)
 
 pub load-spec : {M : Type 1} → statement M
 load-spec =
