@@ -21,7 +21,7 @@ use Rattle.rules.specs.declared.Receiver.{Receiver}
 use Rattle.rules.specs.declared.Answer.{Answer}
 use Rattle.rules.specs.declared.Answer.the-variants.{Done}
 use Rattle.rules.proofs.Passing.{of-first}
-use Rattle.rules.proofs.Counting.{moves, has, format-moves, replay-moves, decrypt-moves, opened-moves}
+use Rattle.rules.proofs.Counting.{moves, has, each-moves}
 
 is-true : (b : Bool) → T b → b ≡ true
 is-true true t = refl
@@ -62,10 +62,10 @@ demand-1 = (
         output-kept = λ x e. rw e;
         one-moved =
             record {
-              format-errors = one-more formatCount formatAnswers (openAnswer r f room) (r .counts .«format_errors») (format-moves r f room);
-              replays = one-more replayCount replayAnswers (openAnswer r f room) (r .counts .replays) (replay-moves r f room);
-              decrypt-errors = one-more decryptCount decryptAnswers (openAnswer r f room) (r .counts .«decrypt_errors») (decrypt-moves r f room);
-              opened = one-more openedCount openedAnswers (openAnswer r f room) (r .counts .opened) (opened-moves r f room);
+              format-errors = one-more formatCount formatAnswers (openAnswer r f room) (r .counts .«format_errors») (each-moves r f room .format-errors);
+              replays = one-more replayCount replayAnswers (openAnswer r f room) (r .counts .replays) (each-moves r f room .replays);
+              decrypt-errors = one-more decryptCount decryptAnswers (openAnswer r f room) (r .counts .«decrypt_errors») (each-moves r f room .decrypt-errors);
+              opened = one-more openedCount openedAnswers (openAnswer r f room) (r .counts .opened) (each-moves r f room .opened);
             };
       }),
 )
