@@ -21,7 +21,7 @@ use Rattle.rules.specs.declared.Receiver.{Receiver}
 use Rattle.rules.specs.declared.Answer.{Answer}
 use Rattle.rules.specs.declared.Answer.the-variants.{Done}
 use Rattle.rules.proofs.Passing.{of-first}
-use Rattle.rules.proofs.Counting.{moves, has, each-moves}
+use Rattle.rules.proofs.Moves.{moves, has, each-moves}
 
 is-true : (b : Bool) → T b → b ≡ true
 is-true true t = refl
