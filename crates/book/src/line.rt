@@ -3,6 +3,8 @@ use crate::hex::Read;
 use crate::hex::digit_of;
 use crate::hex::read_hex;
 use ccmp::MOST_KEY_ID;
+use rules::ADDRESS_OCTETS;
+use rules::KEY_OCTETS;
 ghost use mathlib.Core.Path.{_≡_};
 ghost use mathlib.Core.Bool.{true, false, not};
 ghost use Prim.Native.Nat.{_*_, _≤_};
@@ -17,11 +19,6 @@ const TAB: u8 = 9;
 
 // The octets of a line without its line feed.
 pub(crate) const MOST_LINE: usize = 4800;
-
-// The octets of a key and of an address.
-pub(crate) const KEY_OCTETS: usize = 16;
-
-pub(crate) const ADDRESS_OCTETS: usize = 6;
 
 // The fields of a good line 1, each after a tab: `key`, key, key ID, own address, peer address.
 const WORD_END: usize = 3;

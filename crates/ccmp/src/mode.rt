@@ -1,6 +1,7 @@
 // The mode, CCM over AES-128. Nothing else here names it.
 use crate::number::CCMP_HEADER;
 use ccm::Outcome;
+use rules::KEY_OCTETS;
 ghost use mathlib.Core.Path.{_≡_};
 ghost use mathlib.Core.Bool.{not};
 ghost use mathlib.Core.List.{_++_};
@@ -14,7 +15,13 @@ ghost use Rattle.rules.specs.Mode.{codeOctets, sealedText, openedBody};
 pub const ADDED: usize = CCMP_HEADER + ccm::CODE_OCTETS;
 
 // The text of a body into the front of out.
-pub(crate) fn put_text(key: [u8; 16], nonce: [u8; 13], aad: &[u8], body: &[u8], out: &mut [u8])
+pub(crate) fn put_text(
+    key: [u8; KEY_OCTETS],
+    nonce: [u8; 13],
+    aad: &[u8],
+    body: &[u8],
+    out: &mut [u8],
+)
     requires { ⌜ (leastHeader - 2 ≤ length (now aad)) × (length (now aad) ≤ mostHeader - 2) × (length (now body) ≤ mostBody) ⌝ }
     requires { ⌜ length (now body) + codeOctets ≤ length (now out) ⌝ }
     ensures { λ _. ⌜
@@ -25,7 +32,7 @@ pub(crate) fn put_text(key: [u8; 16], nonce: [u8; 13], aad: &[u8], body: &[u8], 
 
 // The body of a text into the front of out, where the code is right.
 pub(crate) fn put_body(
-    key: [u8; 16],
+    key: [u8; KEY_OCTETS],
     nonce: [u8; 13],
     aad: &[u8],
     text: &[u8],

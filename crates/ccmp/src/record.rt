@@ -1,8 +1,11 @@
 // The two records: soundness, fresh records, and the records that answers leave.
 use crate::Opened;
 use crate::Sealed;
+use rules::ADDRESS_OCTETS;
 use rules::Answer;
 use rules::Counts;
+use rules::KEY_OCTETS;
+use rules::PRIORITIES;
 use rules::Receiver;
 use rules::Sender;
 ghost use mathlib.Core.Path.{_≡_};
@@ -26,11 +29,11 @@ const DECRYPT_COUNT: u8 = 3;
 
 const OPENED_COUNT: u8 = 4;
 
-fn counters_fit(replay: [u64; 16]) -> bool
+fn counters_fit(replay: [u64; PRIORITIES]) -> bool
     ensures { λ r. ⌜ r ≡ allAtMost mostNumber replay ⌝ }
 {
     let mut i: usize = 0;
-    while i < 16 {
+    while i < PRIORITIES {
         if MOST_NUMBER < replay[i] {
             return false;
         }
@@ -59,7 +62,7 @@ pub(crate) fn sound_receiver(r: Receiver) -> bool
 }
 
 // A sender of these fields that has sealed nothing, whatever its key ID is.
-pub fn new_sender(key: [u8; 16], key_id: u8, address: [u8; 6]) -> Sender
+pub fn new_sender(key: [u8; KEY_OCTETS], key_id: u8, address: [u8; ADDRESS_OCTETS]) -> Sender
     ensures { λ r. ⌜ r ≡ newSender key «key_id» address ⌝ }
 {
     Sender {
@@ -71,14 +74,14 @@ pub fn new_sender(key: [u8; 16], key_id: u8, address: [u8; 6]) -> Sender
 }
 
 // A receiver of these fields that has opened nothing, whatever its key ID is.
-pub fn new_receiver(key: [u8; 16], key_id: u8, peer: [u8; 6]) -> Receiver
+pub fn new_receiver(key: [u8; KEY_OCTETS], key_id: u8, peer: [u8; ADDRESS_OCTETS]) -> Receiver
     ensures { λ r. ⌜ r ≡ newReceiver key «key_id» peer ⌝ }
 {
     Receiver {
         key,
         key_id,
         peer,
-        replay: [0; 16],
+        replay: [0; PRIORITIES],
         counts: Counts {
             format_errors: 0,
             replays: 0,
@@ -89,12 +92,12 @@ pub fn new_receiver(key: [u8; 16], key_id: u8, peer: [u8; 6]) -> Receiver
 }
 
 // A sender that has sealed nothing. A key ID over 3 is refused with 1 and gives zeros.
-pub fn fresh_sender(key: [u8; 16], key_id: u8, address: [u8; 6]) -> Sealed
+pub fn fresh_sender(key: [u8; KEY_OCTETS], key_id: u8, address: [u8; ADDRESS_OCTETS]) -> Sealed
     ensures { λ r. ⌜ told (r .answer) ≡ told (freshAnswer «key_id») ⌝ }
     ensures { λ r. ⌜ r .sender ≡ freshSender key «key_id» address ⌝ }
 {
     if MOST_KEY_ID < key_id {
-        let sender = new_sender([0; 16], 0, [0; 6]);
+        let sender = new_sender([0; KEY_OCTETS], 0, [0; ADDRESS_OCTETS]);
         return Sealed {
             answer: Answer::Refused(1),
             sender,
@@ -108,12 +111,12 @@ pub fn fresh_sender(key: [u8; 16], key_id: u8, address: [u8; 6]) -> Sealed
 }
 
 // A receiver that has opened nothing. A key ID over 3 is refused with 1 and gives zeros.
-pub fn fresh_receiver(key: [u8; 16], key_id: u8, peer: [u8; 6]) -> Opened
+pub fn fresh_receiver(key: [u8; KEY_OCTETS], key_id: u8, peer: [u8; ADDRESS_OCTETS]) -> Opened
     ensures { λ r. ⌜ told (r .answer) ≡ told (freshAnswer «key_id») ⌝ }
     ensures { λ r. ⌜ r .receiver ≡ freshReceiver key «key_id» peer ⌝ }
 {
     if MOST_KEY_ID < key_id {
-        let receiver = new_receiver([0; 16], 0, [0; 6]);
+        let receiver = new_receiver([0; KEY_OCTETS], 0, [0; ADDRESS_OCTETS]);
         return Opened {
             answer: Answer::Refused(1),
             receiver,

@@ -1,22 +1,29 @@
 // The records and answers of document 01 as types. Their rules, and what follows from them over whole lists of calls, are
 // in specs/ and proofs/; this crate has no function.
 
+// The octets of a temporal key and of an address, and how many priorities there are.
+pub const KEY_OCTETS: usize = 16;
+
+pub const ADDRESS_OCTETS: usize = 6;
+
+pub const PRIORITIES: usize = 16;
+
 // What a sealing call takes and hands back.
 pub struct Sender {
-    pub key: [u8; 16],
+    pub key: [u8; KEY_OCTETS],
     pub key_id: u8,
-    pub address: [u8; 6],
+    pub address: [u8; ADDRESS_OCTETS],
     // The last packet number used, 0 where there is none.
     pub last: u64,
 }
 
 // What an opening call takes and hands back.
 pub struct Receiver {
-    pub key: [u8; 16],
+    pub key: [u8; KEY_OCTETS],
     pub key_id: u8,
-    pub peer: [u8; 6],
+    pub peer: [u8; ADDRESS_OCTETS],
     // The replay counter of each priority.
-    pub replay: [u64; 16],
+    pub replay: [u64; PRIORITIES],
     pub counts: Counts,
 }
 
