@@ -4,10 +4,6 @@ use Rattle.aes.proofs.States.{columns-are}
 use Rattle.aes.proofs.rounds.load.Statement.{statement}
 use Rattle.aes.proofs.rounds.load.Tie as tie
 
-returns : tie.Need-returns
-returns c =
-    columns-are (c .before .before .before .pack .ensures) (c .before .before .pack2 .ensures) (c .before .pack3 .ensures) (c .pack4 .ensures)
-
 pub load-spec : {M : Type 1} → statement M
 load-spec =
     tie.close
@@ -32,4 +28,4 @@ load-spec =
     (λ c. search needs)
     (λ c. search needs)
     (λ c κs. search needs)
-    returns)
+    (λ c. columns-are (c .before .before .before .pack .ensures) (c .before .before .pack2 .ensures) (c .before .pack3 .ensures) (c .pack4 .ensures)))

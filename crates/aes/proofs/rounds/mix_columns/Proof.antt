@@ -6,12 +6,8 @@ use Rattle.aes.proofs.States.{columns-are}
 use Rattle.aes.proofs.rounds.mix_columns.Statement.{statement}
 use Rattle.aes.proofs.rounds.mix_columns.Tie as tie
 
-returns : tie.Need-returns
-unfolding mixColumns subBytes subWord
-returns c =
-    columns-are (c .before .before .before .mix-word .ensures) (c .before .before .mix-word2 .ensures) (c .before .mix-word3 .ensures) (c .mix-word4 .ensures)
-
 pub mix-columns-spec : {M : Type 1} → statement M
+unfolding mixColumns subBytes subWord
 mix-columns-spec =
     tie.close
     (tie.spec
@@ -19,4 +15,4 @@ mix-columns-spec =
     (λ c κs. search needs)
     (λ c κs. search needs)
     (λ c κs. search needs)
-    returns)
+    (λ c. columns-are (c .before .before .before .mix-word .ensures) (c .before .before .mix-word2 .ensures) (c .before .mix-word3 .ensures) (c .mix-word4 .ensures)))

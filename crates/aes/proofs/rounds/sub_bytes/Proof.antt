@@ -6,12 +6,8 @@ use Rattle.aes.proofs.States.{columns-are}
 use Rattle.aes.proofs.rounds.sub_bytes.Statement.{statement}
 use Rattle.aes.proofs.rounds.sub_bytes.Tie as tie
 
-returns : tie.Need-returns
-unfolding subBytes subWord
-returns c =
-    columns-are (c .before .before .before .sub-word .ensures) (c .before .before .sub-word2 .ensures) (c .before .sub-word3 .ensures) (c .sub-word4 .ensures)
-
 pub sub-bytes-spec : {M : Type 1} → statement M
+unfolding subBytes subWord
 sub-bytes-spec =
     tie.close
     (tie.spec
@@ -19,4 +15,4 @@ sub-bytes-spec =
     (λ c κs. search needs)
     (λ c κs. search needs)
     (λ c κs. search needs)
-    returns)
+    (λ c. columns-are (c .before .before .before .sub-word .ensures) (c .before .before .sub-word2 .ensures) (c .before .sub-word3 .ensures) (c .sub-word4 .ensures)))
