@@ -22,9 +22,11 @@ slice-aggregate-write-all c = sym (length-take-le _ _ (c .before .finish .ensure
 
 loop-again : tie.Need-loop-again Inv-loop μ-loop
 loop-again c =
-    let fed = c .before .before .before .before .before .before .before .before .feed-all .kept in
-    let read = c .before .before .before .before .before .before .before .before .before .before .before .before .before .before .before .before .read .kept in
-    let inv = c .before .before .before .before .before .before .before .before .before .before .before .before .before .before .before .before .before .before .before .loop .inv in
+    let told = c .before .before .before .before .before .before .before .before in
+    let read = told .before .before .before .before .before .before .before .before in
+    let fed-kept = told .feed-all .kept in
+    let read-kept = read .read .kept in
+    let inv = read .before .before .before .loop .inv in
     search needs
 
 pub run-spec : {M : Type 1} → statement M
