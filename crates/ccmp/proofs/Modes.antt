@@ -12,7 +12,7 @@ use Rattle.aes.specs.KeyExpansion.{aes128}
 use Rattle.ccm.specs.Ccm.{sealed, opened}
 use Rattle.ccm.specs.Room.{fitting, outcome, written}
 use Rattle.ccm.specs.declared.Outcome.the-variants as of
-use Rattle.rules.specs.Limits.{leastHeader, mostHeader, mostBody}
+use Rattle.rules.specs.Limits.{leastData, mostData, mostBody}
 use Rattle.rules.specs.Mode.{codeOctets, sealedText, openedBody}
 use Rattle.rules.proofs.Mode.{text-length, text-seals, text-is}
 
@@ -25,7 +25,7 @@ written-is room none = refl
 written-is room (some t) = refl
 
 module _ (key N a room : List ℕ) where
-  pub text-put : (m out : List ℕ) → leastHeader - 2 ≤ length a → length a ≤ mostHeader - 2 → length m ≤ mostBody → length m + codeOctets ≤ length room
+  pub text-put : (m out : List ℕ) → leastData ≤ length a → length a ≤ mostData → length m ≤ mostBody → length m + codeOctets ≤ length room
       → out ≡ written room (fitting room (sealed (aes128 key) codeOctets N a m)) → out ≡ contents (sealedText key N a m) ++ drop (length m + codeOctets) room
   unfolding sealedText
   text-put m out l h b enough e =

@@ -8,7 +8,7 @@ ghost use mathlib.Core.List.{_++_};
 ghost use Prim.Native.Nat.{_+_, _-_, _≤_};
 ghost use lib.ListN.{length, drop};
 ghost use Rattle.octets.specs.Options.{contents, isNone};
-ghost use Rattle.rules.specs.Limits.{leastHeader, mostHeader, mostBody};
+ghost use Rattle.rules.specs.Limits.{leastData, mostData, mostBody};
 ghost use Rattle.rules.specs.Mode.{codeOctets, sealedText, openedBody};
 
 // The octets that sealing adds: the CCMP header and the code.
@@ -22,7 +22,7 @@ pub(crate) fn put_text(
     body: &[u8],
     out: &mut [u8],
 )
-    requires { ⌜ (leastHeader - 2 ≤ length (now aad)) × (length (now aad) ≤ mostHeader - 2) × (length (now body) ≤ mostBody) ⌝ }
+    requires { ⌜ (leastData ≤ length (now aad)) × (length (now aad) ≤ mostData) × (length (now body) ≤ mostBody) ⌝ }
     requires { ⌜ length (now body) + codeOctets ≤ length (now out) ⌝ }
     ensures { λ _. ⌜
         now (out .exit) ≡ contents (sealedText key nonce (now (aad .entry)) (now (body .entry))) ++ drop (length (now (body .entry)) + codeOctets) (now (out .entry)) ⌝ }

@@ -1,5 +1,5 @@
-// The limit cases of the frame rules: sizes, room, numbers, replays, records, and the order of the tests.
-// What this must print, the file stdout, was taken from document 01; ` | 01: ` is the answer that it gives, 0 for done.
+// The limit cases of the frame rules: sizes, room, HT Control, numbers, replays, records, and the order of the tests.
+// What this must print, the file stdout, was taken from document 01 as 02 changes it; ` | 01: ` is the answer that it gives, 0 for done.
 use ccmp::ADDED;
 use ccmp::MOST_BODY;
 use ccmp::MOST_NUMBER;
@@ -262,6 +262,54 @@ fn rooms() {
     opens(r, text, 41, 24, frame, 6);
     show::text(b"open to 25 octets, room 25: ");
     opens(r, text, 41, 25, frame, 0);
+    let longest = plain(0x88, 0x83);
+    show::text(b"seal to 2348 octets, room 2347: ");
+    seals(s, longest, 2332, 2347, 6);
+    show::text(b"seal to 2348 octets, room 2348: ");
+    seals(s, longest, 2332, 2348, 0);
+}
+
+// Frames with HT Control, which is counted and not authenticated.
+fn ht_control() {
+    let frame = plain(0x88, 0x80);
+    let text = text_of(frame, 31, 0);
+    let s = sender(0);
+    let r = receiver(0, 0);
+    show::text(b"seal 26 octets of header 30: ");
+    seals(s, frame, 26, SIZE, 2);
+    show::text(b"seal 29 octets of header 30: ");
+    seals(s, frame, 29, SIZE, 2);
+    show::text(b"open 26 octets of header 30: ");
+    opens(r, text, 26, SIZE, frame, 2);
+    show::text(b"open 29 octets of header 30: ");
+    opens(r, text, 29, SIZE, frame, 2);
+    show::text(b"open 35 octets of header 36: ");
+    opens(r, plain(0x88, 0xc3), 35, SIZE, frame, 2);
+    show::text(b"open with HT Control damaged: ");
+    opens(r, with(text, 26, 0xff), 47, SIZE, with(frame, 26, 0xff), 0);
+}
+
+// Order turned over on the way: with QoS Control the CCMP header is then looked for at another place.
+fn orders() {
+    let r = receiver(0, 0);
+    let cleared = with(text_of(plain(0x88, 0x80), 31, 0), 1, 0x40);
+    show::text(b"open with Order cleared: ");
+    opens(r, cleared, 47, SIZE, cleared, 8);
+    show::text(b"open with Order cleared, HT Control with ExtIV and key ID 0: ");
+    opens(r, with(cleared, 29, 0x20), 47, SIZE, cleared, 9);
+    let same = with(cleared, 29, 0xa0);
+    show::text(b"open with Order cleared, HT Control with key ID 2, counter 2^48 - 1: ");
+    opens(receiver(6, MOST_NUMBER), same, 47, SIZE, cleared, 10);
+    show::text(b"open with Order cleared, HT Control with key ID 2: ");
+    opens(r, same, 47, SIZE, cleared, 11);
+    let frame = plain(0x88, 0x00);
+    show::text(b"open with Order set, a body of 1: ");
+    opens(r, with(text_of(frame, 27, 0), 1, 0xc0), 43, SIZE, frame, 5);
+    show::text(b"open with Order set, a body of 5: ");
+    opens(r, with(text_of(frame, 31, 0), 1, 0xc0), 47, SIZE, frame, 8);
+    let other = plain(0x08, 0x80);
+    show::text(b"open with Order cleared, no QoS Control: ");
+    opens(r, with(text_of(other, 25, 0), 1, 0x40), 41, SIZE, other, 11);
 }
 
 // The last packet number of all.
@@ -581,7 +629,11 @@ fn main() {
     sizes(0x88, 0x00, 26);
     sizes(0x08, 0x03, 30);
     sizes(0x88, 0x03, 32);
+    sizes(0x88, 0x80, 30);
+    sizes(0x88, 0x83, 36);
     rooms();
+    ht_control();
+    orders();
     last_number();
     replays();
     seal_answers();

@@ -2,7 +2,7 @@
 use mathlib.Core.Path.{_≡_, sym, ap, _∙_}
 use mathlib.Core.List.{List}
 use mathlib.Core.Option.{Option, some}
-use Prim.Native.Nat.{ℕ, _+_, _-_, _≤_}
+use Prim.Native.Nat.{ℕ, _+_, _≤_}
 use native.Mathlib.Omega.{arith}
 use lib.Dec.{lit≤}
 use lib.ListN.{length}
@@ -10,7 +10,7 @@ use Rattle.aes.specs.KeyExpansion.{aes128}
 use Rattle.aes.proofs.Laws.{length-aes128}
 use Rattle.ccm.proofs.Laws.{limits-hold, seals, length-sealed, sealed-opens, opened-seals}
 use Rattle.octets.specs.Options.{contents}
-use Rattle.rules.specs.Limits.{leastHeader, mostHeader, mostBody}
+use Rattle.rules.specs.Limits.{leastData, mostData, mostBody}
 use Rattle.rules.specs.Mode.{codeOctets, sealedText, openedBody}
 
 module _ (key N a m : List ℕ) where
@@ -27,7 +27,7 @@ module _ (key N a m : List ℕ) where
   text-seals t e = opened-seals (aes128 key) (length-aes128 key) codeOctets (lit≤ tt) N a m t e
 
   -- a frame's body has a text
-  pub text-is : leastHeader - 2 ≤ length a → length a ≤ mostHeader - 2 → length m ≤ mostBody → sealedText key N a m ≡ some (contents (sealedText key N a m))
+  pub text-is : leastData ≤ length a → length a ≤ mostData → length m ≤ mostBody → sealedText key N a m ≡ some (contents (sealedText key N a m))
   unfolding sealedText
   text-is p q r =
       let e = seals (aes128 key) (length-aes128 key) codeOctets (lit≤ tt) N a m (limits-hold (length a) (length m) (omega arith) (omega arith) (omega arith)) in
