@@ -6,9 +6,12 @@ use crate::ccm::Ccm;
 pub const MAX_NUMBER: u64 = (1 << 48) - 1;
 /// The greatest body of a plain frame.
 pub const MAX_BODY: usize = 2_296;
+/// The greatest header: A4, QoS Control and HT Control.
+pub const MAX_HEADER: usize = 36;
 
 const MIN_HEADER: usize = 24;
-const MAX_HEADER: usize = 32;
+/// The most octets of authenticated data: with A4 and QoS Control.
+const MAX_DATA: usize = 30;
 const CCMP_HEADER: usize = 8;
 const MIC: usize = 8;
 /// What sealing adds to a frame.
@@ -16,6 +19,8 @@ const ADDED: usize = CCMP_HEADER + MIC;
 
 /// Bit b14, in the second octet of Frame Control.
 const PROTECTED: u8 = 0x40;
+/// Bit b15, in the same octet.
+const ORDER: u8 = 0x80;
 /// In the key octet of the CCMP header.
 const EXT_IV: u8 = 0x20;
 
@@ -78,9 +83,19 @@ fn has_qos(frame: &[u8]) -> bool {
     frame[0] & 0x80 != 0
 }
 
-/// The header's length by Frame Control, the first two octets.
+/// Only with QoS Control does b15 say that HT Control follows it.
+pub fn has_ht(frame: &[u8]) -> bool {
+    has_qos(frame) && frame[1] & ORDER != 0
+}
+
+/// Where the addresses and Sequence Control end and QoS Control stands, if there is one, by Frame Control, the first two octets.
+pub fn qos_place(frame: &[u8]) -> usize {
+    MIN_HEADER + if has_fourth_address(frame) { 6 } else { 0 }
+}
+
+/// The header's length by Frame Control.
 pub fn header_length(frame: &[u8]) -> usize {
-    MIN_HEADER + if has_fourth_address(frame) { 6 } else { 0 } + if has_qos(frame) { 2 } else { 0 }
+    qos_place(frame) + if has_qos(frame) { 2 } else { 0 } + if has_ht(frame) { 4 } else { 0 }
 }
 
 /// A whole header.
@@ -102,10 +117,10 @@ impl<'a> Header<'a> {
         &self.0[10..16]
     }
 
-    /// QoS Control is the header's last two octets.
+    /// The low four bits of QoS Control, and 0 without it.
     fn priority(&self) -> u8 {
         if has_qos(self.0) {
-            self.0[self.0.len() - 2] & 0x0f
+            self.0[qos_place(self.0)] & 0x0f
         } else {
             0
         }
@@ -119,20 +134,21 @@ impl<'a> Header<'a> {
         nonce
     }
 
-    /// In the front of the array, with its length: the header without Duration, and without the bits that may change on the way.
-    fn authenticated_data(&self) -> ([u8; MAX_HEADER - 2], usize) {
-        let (header, length) = (self.0, self.0.len() - 2);
-        let mut data = [0; MAX_HEADER - 2];
+    /// In the front of the array, with its length: the header without Duration, HT Control and the bits that may change on the way.
+    fn authenticated_data(&self) -> ([u8; MAX_DATA], usize) {
+        let (header, qos) = (self.0, qos_place(self.0));
+        let mut data = [0; MAX_DATA];
         data[0] = header[0] & 0x8f;
         data[1] = header[1] & 0xc7 | PROTECTED;
         data[2..20].copy_from_slice(&header[4..22]);
         data[20] = header[22] & 0x0f;
-        data[22..length].copy_from_slice(&header[24..]);
-        if has_qos(header) {
-            data[length - 2] &= 0x0f;
-            data[length - 1] = 0;
+        data[22..qos - 2].copy_from_slice(&header[24..qos]);
+        if !has_qos(header) {
+            return (data, qos - 2);
         }
-        (data, length)
+        data[1] &= !ORDER;
+        data[qos - 2] = self.priority();
+        (data, qos)
     }
 }
 
@@ -252,6 +268,8 @@ mod tests {
     const KEY: [u8; 16] = [7; 16];
     const ADDRESS: [u8; 6] = [2, 0, 0, 0, 0, 1];
     const ROOM: usize = MAX_HEADER + MAX_BODY + ADDED + 1;
+    /// A Frame Control for each header shape.
+    const CONTROLS: [[u8; 2]; 6] = [[0x08, 0x00], [0x88, 0x00], [0x08, 0x03], [0x88, 0x03], [0x88, 0x80], [0x88, 0x83]];
 
     fn sender() -> Sender {
         Sender::fresh(KEY, 2, ADDRESS).1
@@ -286,11 +304,18 @@ mod tests {
 
     #[test]
     fn headers() {
-        let examples = [([0x08, 0x00], 24, [0x08, 0x40]), ([0x88, 0x03], 32, [0x88, 0x43]), ([0x38, 0x3a], 24, [0x08, 0x42])];
-        for (control, length, authenticated) in examples {
+        for (control, length, authenticated, data_length) in [
+            ([0x08, 0x00], 24, [0x08, 0x40], 22),
+            ([0x88, 0x03], 32, [0x88, 0x43], 30),
+            ([0x38, 0x3a], 24, [0x08, 0x42], 22),
+            ([0x08, 0x80], 24, [0x08, 0xc0], 22),
+            ([0x08, 0x83], 30, [0x08, 0xc3], 28),
+            ([0x88, 0x80], 30, [0x88, 0x40], 24),
+            ([0x88, 0x83], 36, [0x88, 0x43], 30),
+        ] {
             let frame = plain(control, 0);
-            let (data, data_length) = Header(&frame).authenticated_data();
-            assert_eq!((frame.len(), data_length, &data[..2]), (length, length - 2, &authenticated[..]));
+            let (data, octets) = Header(&frame).authenticated_data();
+            assert_eq!((frame.len(), &data[..2], octets), (length, &authenticated[..], data_length));
         }
         assert_eq!([refused([0x48, 0x00]), refused([0xb0, 0x00])], [Some(Refusal::Kind); 2]);
         assert_eq!([refused([0x38, 0x3a]), refused([0x08, 0x40]), refused([0x09, 0x40])], [None, Some(Refusal::Mark), Some(Refusal::Kind)]);
@@ -298,14 +323,16 @@ mod tests {
 
     #[test]
     fn muted_fields() {
-        let mut frame = plain([0x88, 0x03], 0);
-        frame[22..24].copy_from_slice(&[0x35, 0xa1]);
-        frame[30..32].copy_from_slice(&[0xf6, 0x12]);
-        let header = Header(&frame);
-        let (data, _) = header.authenticated_data();
-        assert_eq!((&data[20..22], &data[22..28], &data[28..]), (&[0x05, 0][..], &frame[24..30], &[0x06, 0][..]));
-        assert_eq!(header.priority(), 6);
-        assert_eq!(header.nonce(0x010203040506).to_vec(), octets("06 02 00 00 00 00 01 01 02 03 04 05 06"));
+        for (control, qos) in [([0x88, 0x00], 24), ([0x88, 0x03], 30), ([0x88, 0x80], 24), ([0x88, 0x83], 30)] {
+            let mut frame = plain(control, 0);
+            frame[22..24].copy_from_slice(&[0x35, 0xa1]);
+            frame[qos..qos + 2].copy_from_slice(&[0xf6, 0x12]);
+            let header = Header(&frame);
+            let (data, length) = header.authenticated_data();
+            assert_eq!((&data[20..22], &data[22..qos - 2], &data[qos - 2..length]), (&[0x05, 0][..], &frame[24..qos], &[0x06, 0][..]));
+            assert_eq!(header.priority(), 6);
+            assert_eq!(header.nonce(0x010203040506).to_vec(), octets("06 02 00 00 00 00 01 01 02 03 04 05 06"));
+        }
     }
 
     #[test]
@@ -334,7 +361,7 @@ mod tests {
 
     #[test]
     fn body_limits() {
-        for control in [[0x08, 0], [0x88, 0], [0x08, 3], [0x88, 3]] {
+        for control in CONTROLS {
             for (body, refusal) in [(0, Some(Refusal::Body)), (1, None), (2_295, None), (2_296, None), (2_297, Some(Refusal::Body))] {
                 assert_eq!(sender().seal(&plain(control, body), &mut [0; ROOM]).err(), refusal);
             }
@@ -347,10 +374,69 @@ mod tests {
 
     #[test]
     fn short_frames() {
-        let frame = plain([0x88, 0x03], 1);
-        let mut answers = (0..=33).map(|length| sender().seal(&frame[..length], &mut [0; ROOM]).err());
-        assert!(answers.by_ref().take(32).all(|answer| answer == Some(Refusal::Short)));
-        assert_eq!(answers.collect::<Vec<_>>(), [Some(Refusal::Body), None]);
+        for (control, header) in [([0x88, 0x03], 32), ([0x88, 0x80], 30), ([0x88, 0x83], 36)] {
+            let frame = plain(control, 1);
+            let mut answers = (0..=header + 1).map(|length| sender().seal(&frame[..length], &mut [0; ROOM]).err());
+            assert!(answers.by_ref().take(header).all(|answer| answer == Some(Refusal::Short)));
+            assert_eq!(answers.collect::<Vec<_>>(), [Some(Refusal::Body), None]);
+            let frame = plain([control[0], control[1] | PROTECTED], 0);
+            let answers = [header - 1, header].map(|length| receiver().open(&frame[..length], &mut [0; ROOM]));
+            assert_eq!(answers, [Err(Refusal::Short), Err(Refusal::Body)]);
+        }
+    }
+
+    #[test]
+    fn greatest_sealed_frame() {
+        let lengths = CONTROLS.map(|control| sealed(&mut sender(), &plain(control, MAX_BODY)).len());
+        assert_eq!(lengths, [2_336, 2_338, 2_342, 2_344, 2_342, 2_348]);
+    }
+
+    #[test]
+    fn ht_control_is_free() {
+        for (with, without) in [([0x88, 0x80], [0x88, 0x00]), ([0x88, 0x83], [0x88, 0x03])] {
+            let (ht, header) = (header_length(&without), header_length(&with));
+            let mut frame = plain(with, 40);
+            let mut text = sealed(&mut sender(), &frame);
+            let shorter = [&without[..], &frame[2..ht], &frame[header..]].concat();
+            assert_eq!(text[header..], sealed(&mut sender(), &shorter)[ht..]);
+            for octet in frame[ht..header].iter_mut().chain(&mut text[ht..header]) {
+                *octet ^= 0xff;
+            }
+            let mut out = vec![0; frame.len()];
+            assert!(receiver().open(&text, &mut out).is_ok());
+            assert_eq!(out, frame);
+        }
+    }
+
+    // Taken for the key octet then: PN5 where b15 is set, and HT Control's last octet where it is cleared.
+    #[test]
+    fn b15_turned_over() {
+        let answer = |control: [u8; 2], body: usize, key_octet: u8, counter: u64| {
+            let (mut sender, mut receiver) = (sender(), receiver());
+            let mut frame = plain(control, body);
+            if has_ht(&frame) {
+                frame[header_length(&control) - 1] = key_octet;
+            } else {
+                sender.last_number = u64::from(key_octet) << 40;
+            }
+            let mut frame = sealed(&mut sender, &frame);
+            frame[1] ^= ORDER;
+            receiver.replay_counters = [counter; 16];
+            receiver.open(&frame, &mut [0; ROOM])
+        };
+        for control in [[0x88, 0x00], [0x88, 0x03], [0x88, 0x80], [0x88, 0x83]] {
+            let limit = if has_ht(&control) { 2_293 } else { 4 };
+            assert_eq!(answer(control, limit, 0xa0, 0), Err(Refusal::Body));
+            assert_eq!(answer(control, 5, 0x80, 0), Err(Refusal::Extended));
+            assert_eq!(answer(control, 5, 0xe0, 0), Err(Refusal::KeyId));
+            assert_eq!(answer(control, 5, 0xa0, MAX_NUMBER), Err(Refusal::Replay));
+            assert_eq!(answer(control, 5, 0xa0, 0), Err(Refusal::Integrity));
+        }
+        for body in 1..=MAX_BODY {
+            for control in [[0x88, 0x00], [0x88, 0x80]] {
+                assert!(matches!(answer(control, body, 0xa0, 0), Err(Refusal::Body | Refusal::Integrity)));
+            }
+        }
     }
 
     #[test]
