@@ -1,13 +1,15 @@
 //! Frames from a seed, for comparing two programs on them: good ones of every header shape, and damaged ones. The same seed gives the
 //! same frames everywhere.
 
-use crate::frame::{header_length, MAX_BODY, MAX_NUMBER};
+use crate::frame::{header_length, qos_place, MAX_BODY, MAX_HEADER, MAX_NUMBER};
 use std::ops::Range;
 
 /// Bit b14, in the second octet of Frame Control.
 pub const PROTECTED: u8 = 0x40;
+/// Bit b15, in the same octet.
+pub const ORDER: u8 = 0x80;
 /// A sealed frame of this length has all its regions, whatever its Frame Control says.
-pub const SHORTEST_SEALED: usize = 32 + 1 + 16;
+pub const SHORTEST_SEALED: usize = MAX_HEADER + 1 + 16;
 
 /// SplitMix64.
 pub struct Random(pub u64);
@@ -102,10 +104,11 @@ impl Random {
             4 => set_number(&mut frame[header..], MAX_NUMBER - self.draw() % 3),
             5 => frame.truncate(header + 16 + self.below(3)),
             6 | 7 => self.spoil(frame),
+            8 => frame[1] ^= ORDER,
             _ => {
-                let address_4 = 24..if frame[1] & 3 == 3 { 30 } else { 24 };
-                let qos = address_4.end..header;
-                let regions = [0..2, 2..4, 4..10, 10..16, 16..22, 22..24, address_4, qos, header..text, text..end - 8, end - 8..end];
+                let (at, after) = (qos_place(frame), header.min(qos_place(frame) + 2));
+                let (address_4, qos, ht) = (24..at, at..after, after..header);
+                let regions = [0..2, 2..4, 4..10, 10..16, 16..22, 22..24, address_4, qos, ht, header..text, text..end - 8, end - 8..end];
                 let which = self.below(regions.len());
                 self.flip(frame, regions[which].clone());
             }

@@ -4,12 +4,12 @@
 //!   generate SEED LINES        a SEED of 15 modulo 16 gives a bad line 1
 #![forbid(unsafe_code)]
 
-use second::frame::{header_length, Sender, MAX_BODY, MAX_NUMBER};
+use second::frame::{qos_place, Sender, MAX_BODY, MAX_HEADER, MAX_NUMBER};
 use second::sample::{Random, PROTECTED, SHORTEST_SEALED};
 use std::collections::VecDeque;
 use std::io::{self, Write};
 
-const ROOM: usize = 32 + MAX_BODY + 16;
+const ROOM: usize = MAX_HEADER + MAX_BODY + 16;
 /// Octets that are no digits: the neighbours of the digits, capitals, and what some readers of text take for an end.
 const NOT_DIGITS: [u8; 22] = *b"/:`g@GAFO- \t\0\r\x08\x0b\x0c\x1a\x7f\x80\x85\xff";
 
@@ -94,9 +94,8 @@ impl Generator {
     fn send_some(&mut self) {
         for _ in 0..6 {
             let frame = self.random.plain(self.sender.address);
-            let header = header_length(&frame);
             let last_number = self.sender.last_number;
-            let at_the_end = frame[0] & 0x80 != 0 && frame[header - 2] & 0x0f >= 14;
+            let at_the_end = frame[0] & 0x80 != 0 && frame[qos_place(&frame)] & 0x0f >= 14;
             if at_the_end {
                 self.sender.last_number = MAX_NUMBER - 1 - self.random.draw() % 12;
             }
