@@ -3,8 +3,8 @@
 //! and what they hand back is dropped.
 
 use crate::call::{Call, Left, Record};
-use second::frame::{header_length, number_in, Receiver, Sender, MAX_BODY, MAX_NUMBER};
-use second::sample::{Random, SHORTEST_SEALED};
+use second::frame::{has_ht, header_length, number_in, Receiver, Sender, MAX_BODY, MAX_NUMBER};
+use second::sample::{Random, ORDER, SHORTEST_SEALED};
 use std::collections::VecDeque;
 
 /// What sealing adds to a frame.
@@ -55,9 +55,17 @@ impl List {
             1 => self.sender.last_number = MAX_NUMBER - self.random.draw() % 40,
             _ => {
                 self.sender.last_number = self.random.draw() >> 16 >> self.random.below(40);
+                // PN5, which b15 set on the way makes the key octet, may be a right one.
+                if self.random.one_in(2) {
+                    self.sender.last_number = u64::from(self.key_octet()) << 40 | self.random.draw() >> 24;
+                }
                 counts_near_their_end(&mut self.random, &mut self.receiver);
             }
         }
+    }
+
+    fn key_octet(&self) -> u8 {
+        0x20 | self.receiver.key_id << 6
     }
 
     /// Takes what the call left.
@@ -108,8 +116,10 @@ impl List {
         let Some(mut frame) = self.delivery() else {
             return self.seal();
         };
-        if self.random.one_in(3) {
-            self.damage(&mut frame);
+        match self.random.below(6) {
+            0 | 1 => self.damage(&mut frame),
+            2 => self.turn_b15(&mut frame),
+            _ => {}
         }
         self.any_octets(&mut frame);
         let mut receiver = self.receiver.clone();
@@ -145,6 +155,17 @@ impl List {
         while frame.len() >= SHORTEST_SEALED && !self.random.one_in(3) {
             self.random.damage(frame);
         }
+    }
+
+    /// Turns b15 over in a sealed frame; the whole one comes after it. HT Control's last octet, which b15 cleared makes the key octet, may
+    /// be a right one.
+    fn turn_b15(&mut self, frame: &mut [u8]) {
+        self.waiting.push_front(frame.to_vec());
+        let header = header_length(frame);
+        if has_ht(frame) && self.random.one_in(2) {
+            frame[header - 1] = self.key_octet();
+        }
+        frame[1] ^= ORDER;
     }
 
     /// One frame in eight gets one of these lengths after its header.

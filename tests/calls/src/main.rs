@@ -8,21 +8,28 @@ mod generate;
 
 use call::{Call, Left, Record};
 use generate::List;
+use second::frame::{has_ht, header_length, Receiver};
+use second::sample::ORDER;
 use std::collections::BTreeMap;
 
 const LIST: usize = 250;
-/// A run of so many calls has to show each answer, each priority and each count often enough.
-const WHOLE_RUN: usize = 100_000;
+/// A run of so many calls has to show each answer, each priority, each header shape and each count often enough.
+const WHOLE_RUN: usize = 400_000;
 const OFTEN: usize = 200;
 
 /// What a whole run has to show.
-const DUE: [(&str, &[u64]); 8] = [
+const DUE: [(&str, &[u64]); 13] = [
     ("fresh sender, answer", &[0, 1]),
     ("fresh receiver, answer", &[0, 1]),
     ("seal, answer", &[0, 1, 2, 3, 4, 5, 6, 7, 12]),
     ("open, answer", &[0, 1, 2, 3, 4, 5, 6, 7, 8, 9, 10, 11]),
     ("seal, priority", &[0, 1, 2, 3, 4, 5, 6, 7, 8, 9, 10, 11, 12, 13, 14, 15]),
     ("open, priority", &[0, 1, 2, 3, 4, 5, 6, 7, 8, 9, 10, 11, 12, 13, 14, 15]),
+    ("seal, header without HT Control", &[24, 26, 30, 32]),
+    ("open, header without HT Control", &[24, 26, 30, 32]),
+    ("seal, header with HT Control", &[30, 36]),
+    ("open, header with HT Control", &[30, 36]),
+    ("open, answer to b15 turned over", &[5, 8, 9, 10, 11]),
     ("count moved", &[0, 1, 2, 3]),
     ("count gone back to 0", &[0, 1, 2, 3]),
 ];
@@ -42,7 +49,14 @@ impl Seen {
         if octets > 0 {
             self.add(format!("{}, priority", call.name()), priority);
         }
-        if let (Call::Open { receiver, .. }, Record::Receiver(after)) = (call, &left.record) {
+        if let (1.., Call::Seal { frame, .. } | Call::Open { frame, .. }) = (octets, call) {
+            let ht = if has_ht(frame) { "with" } else { "without" };
+            self.add(format!("{}, header {ht} HT Control", call.name()), header_length(frame) as u64);
+        }
+        if let (Call::Open { receiver, frame, .. }, Record::Receiver(after)) = (call, &left.record) {
+            if answer > 0 && opens_turned_back(receiver, frame) {
+                self.add(String::from("open, answer to b15 turned over"), answer);
+            }
             for (which, (before, now)) in (0..).zip(receiver.counts().into_iter().zip(after.counts())) {
                 if now != before {
                     self.add(String::from(if now == 0 { "count gone back to 0" } else { "count moved" }), which);
@@ -54,6 +68,15 @@ impl Seen {
     fn times(&self, what: &str, number: u64) -> usize {
         self.0.get(&(what.into(), number)).copied().unwrap_or_default()
     }
+}
+
+/// Whether it is a QoS frame that opens, room given, with b15 turned over.
+fn opens_turned_back(receiver: &Receiver, frame: &[u8]) -> bool {
+    let [first @ 0x80..=0xff, second, rest @ ..] = frame else {
+        return false;
+    };
+    let turned_back = [&[*first, second ^ ORDER], rest].concat();
+    receiver.clone().open(&turned_back, &mut vec![0; frame.len()]).is_ok()
 }
 
 fn stop(words: String) -> ! {
