@@ -1,6 +1,6 @@
 #!/usr/bin/env python3
-"""Compares two frame books octet for octet: the proved `framebook` and `second`, on small texts whose output document 01 settles, on generated
-books, and on books that reach `framebook` in small pieces.
+"""Compares two frame books octet for octet: the proved `framebook` and `second`, on small texts whose output documents 01 and 02 settle, on
+generated books, and on books that reach `framebook` in small pieces.
 
   tests/books.py [LINES [SEED]]        20,000 lines and seed 1 where none is given; needs Cargo
 
@@ -35,11 +35,28 @@ STANDARD_KEY = b"key\tc97c1f67ce371185514a8a19f2bdd52f\t0\t020000000001\t5030f18
 STANDARD_HEADER = b"c32c0fd2e128a57c5030f1844408abaea5b8fcba8033"
 STANDARD = b"0848" + STANDARD_HEADER + b"0ce70020769703b5f3d0a2fe9a3dbf2342a643e43246e80c3c04d0197845ce0b16f97623"
 STANDARD_PLAIN = b"0808" + STANDARD_HEADER + b"f8ba1a55d02f85ae967bb62fb6cda8eb7e78a050"
+# A QoS header between Frame Control and HT Control, and what follows it in the sealed frame: with and without HT Control the same.
+QOS = b"0000ffffffffffff02000000000102000000000300000500"
+QOS_SEALED = b"0100002000000000c84fd7a210442d6d09"
+# The same with A4.
+QOS_4 = b"0000ffffffffffff02000000000102000000000300000200000000040500"
+QOS_4_SEALED = b"0100002000000000c8702270e0eb569c18"
+# PLAIN sealed with b15, after its header.
+B15_SEALED = b"010000200000000062d1001191c5b124cd"
+# HT Control, and the answer where b15 is cleared, so that its last octet is taken for the key octet.
+HT_CONTROLS = [(b"c1c2c3c4", 8), (b"c1c2c3e4", 9), (b"c1c2c324", 11)]
 
 
 def digits(line_length):
     """A line to seal of this length: a frame whose body is too long."""
     return (b"seal\t08" + b"0" * line_length)[:line_length]
+
+
+def turned(what, plain, sealed, answer):
+    """A text: this frame sealed, opened with b15 turned over, which has this answer, and opened whole."""
+    other = sealed[:2] + b"%02x" % (int(sealed[2:4], 16) ^ 0x80) + sealed[4:]
+    book = SELF + b"seal\t" + plain + b"\nopen\t" + other + b"\nopen\t" + sealed + b"\n"
+    return f"{what}, b15 turned over", book, b"2\tseal\t0\t%s\n3\topen\t%d\t-\n4\topen\t0\t%s\n" % (sealed, answer, plain)
 
 
 # What a book says and what is written, each with what it shows.
@@ -117,6 +134,19 @@ TEXTS = [
         STANDARD_KEY + b"open\t" + STANDARD[:-1] + b"2\nopen\t" + STANDARD + b"\nopen\t" + STANDARD,
         b"2\topen\t11\t-\n3\topen\t0\t" + STANDARD_PLAIN + b"\n4\topen\t10\t-\n",
     ),
+    *[
+        (
+            f"a QoS frame with b15 and {length} octets",
+            KEY + b"seal\t8880" + (QOS + b"c1c2c3c4")[: 2 * length - 4] + b"\nopen\t88c0" + (QOS + b"c1c2c3c4")[: 2 * length - 4] + b"\n",
+            b"2\tseal\t%d\t-\n3\topen\t%d\t-\n" % (answer, answer),
+        )
+        for length, answer in ((24, 2), (26, 2), (29, 2), (30, 5))
+    ],
+    turned("b15 without QoS Control", b"0880" + PLAIN[4:], b"08c0" + PLAIN[4:-2] + B15_SEALED, 11),
+    turned("QoS Control alone", b"8800" + QOS + b"aa", b"8840" + QOS + QOS_SEALED, 5),
+    turned("A4 and QoS Control", b"8803" + QOS_4 + b"aa", b"8843" + QOS_4 + QOS_4_SEALED, 5),
+    *[turned(f"HT Control {ht}", b"8880" + QOS + ht + b"aa", b"88c0" + QOS + ht + QOS_SEALED, answer) for ht, answer in HT_CONTROLS],
+    *[turned(f"A4, HT Control {ht}", b"8883" + QOS_4 + ht + b"aa", b"88c3" + QOS_4 + ht + QOS_4_SEALED, answer) for ht, answer in HT_CONTROLS],
 ]
 
 
