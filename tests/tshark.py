@@ -1,9 +1,10 @@
 #!/usr/bin/env python3
 """Gives frames that the proved code sealed to Wireshark's `tshark`, which gets the temporal key and nothing else, and compares the bodies it
-shows with the plain ones. Every header shape, key ID and priority occurs, and packet numbers from 1 on and, in the last eight frames, above
-2^32. Each frame is given again with one bit of its addresses, body or code turned over: of that one tshark may show no body.
+shows with the plain ones. Every header shape, key ID and priority occurs, b15 without QoS Control, and packet numbers from 1 on and, in the
+last eight frames, above 2^32. Each frame is given again with one bit of its addresses, body or code turned over: of that one tshark may show
+no body.
 
-  tests/tshark.py [FRAMES [SEED]]        512 frames and seed 1 where none is given; needs tshark (Debian's package tshark, 4.0.17)
+  tests/tshark.py [FRAMES [SEED]]        1,024 frames and seed 1 where none is given; needs tshark (Debian's package tshark, 4.0.17)
 """
 import ctypes
 import os
@@ -19,7 +20,7 @@ import proved
 
 RAW_80211 = 105
 SNAP = bytes.fromhex("aaaa0300000088b5")
-frames = int(sys.argv[1]) if len(sys.argv) > 1 else 512
+frames = int(sys.argv[1]) if len(sys.argv) > 1 else 1_024
 seed = int(sys.argv[2]) if len(sys.argv) > 2 else 1
 exported = proved.library()
 source = random.Random(seed)
@@ -35,11 +36,12 @@ def seal(key, key_id, address, last, frame):
 
 
 def header(case, address):
-    qos, ds = case % 2, case // 2 % 4
-    control = bytes([0x08 | qos << 7, ds | source.randrange(16) << 2])
+    qos, ds, order = case % 2, case // 2 % 4, case // 32 % 2
+    control = bytes([0x08 | qos << 7, ds | source.randrange(16) << 2 | order << 7])
     octets = control + source.randbytes(8) + address + source.randbytes(8)
     octets += source.randbytes(6) if ds == 3 else b""
-    return octets + (bytes([case // 32 % 16 | source.choice((0x00, 0x20, 0x60)), 0]) if qos else b"")
+    octets += bytes([case // 64 % 16 | source.choice((0x00, 0x20, 0x60)), 0]) if qos else b""
+    return octets + (source.randbytes(4) if qos and order else b"")
 
 
 def flipped(octets, places):
