@@ -279,6 +279,8 @@ fn ht_control() {
     seals(s, frame, 26, SIZE, 2);
     show::text(b"seal 29 octets of header 30: ");
     seals(s, frame, 29, SIZE, 2);
+    show::text(b"seal 35 octets of header 36: ");
+    seals(s, plain(0x88, 0x83), 35, SIZE, 2);
     show::text(b"open 26 octets of header 30: ");
     opens(r, text, 26, SIZE, frame, 2);
     show::text(b"open 29 octets of header 30: ");
