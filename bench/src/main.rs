@@ -2,7 +2,7 @@
 
 use second::aes::Aes128;
 use second::ccm::Ccm;
-use second::frame::{Receiver, Sender};
+use second::frame::{Receiver, Sender, ADDED};
 use std::hint::black_box;
 use std::time::Instant;
 
@@ -92,7 +92,7 @@ fn frame(length: usize) {
     let mut plain: Vec<u8> = (0..26 + length).map(|i| (i * 7) as u8).collect();
     plain[..2].copy_from_slice(&[0x88, 0x01]);
     plain[10..16].copy_from_slice(&address);
-    let (mut ours, mut theirs) = (vec![0; plain.len() + 16], vec![0; plain.len() + 16]);
+    let (mut ours, mut theirs) = (vec![0; plain.len() + ADDED], vec![0; plain.len() + ADDED]);
 
     let times = compare(
         || (0..FRAMES).for_each(|_| assert_eq!(proved::seal(&mut black_box(&sender).clone(), &plain, &mut ours)[0], 0)),

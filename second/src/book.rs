@@ -1,12 +1,12 @@
 //! The frame book: a key on line 1, then a frame to seal or to open on each line, answered line by line.
 
-use crate::frame::{Answer, Receiver, Sender};
+use crate::frame::{Answer, Receiver, Sender, ADDED};
 use std::io::{self, BufRead, BufReader, Read, Write};
 
 /// The most octets of a line, without its line feed.
 const LONGEST: usize = 4_800;
-/// The most octets of a frame, which follows a word of four octets and a tab, and the 16 that sealing adds.
-const ROOM: usize = (LONGEST - 5) / 2 + 16;
+/// The most octets of a frame, which follows a word of four octets and a tab, and what sealing adds.
+const ROOM: usize = (LONGEST - 5) / 2 + ADDED;
 /// Octets read or written at a time.
 const PIECE: usize = 1 << 16;
 

@@ -15,12 +15,12 @@ const MAX_DATA: usize = 30;
 const CCMP_HEADER: usize = 8;
 const MIC: usize = 8;
 /// What sealing adds to a frame.
-const ADDED: usize = CCMP_HEADER + MIC;
+pub const ADDED: usize = CCMP_HEADER + MIC;
 
 /// Bit b14, in the second octet of Frame Control.
-const PROTECTED: u8 = 0x40;
+pub const PROTECTED: u8 = 0x40;
 /// Bit b15, in the same octet.
-const ORDER: u8 = 0x80;
+pub const ORDER: u8 = 0x80;
 /// In the key octet of the CCMP header.
 const EXT_IV: u8 = 0x20;
 
@@ -264,12 +264,11 @@ impl Receiver {
 #[cfg(test)]
 mod tests {
     use super::*;
+    use crate::sample::CONTROLS;
 
     const KEY: [u8; 16] = [7; 16];
     const ADDRESS: [u8; 6] = [2, 0, 0, 0, 0, 1];
     const ROOM: usize = MAX_HEADER + MAX_BODY + ADDED + 1;
-    /// A Frame Control for each header shape.
-    const CONTROLS: [[u8; 2]; 6] = [[0x08, 0x00], [0x88, 0x00], [0x08, 0x03], [0x88, 0x03], [0x88, 0x80], [0x88, 0x83]];
 
     fn sender() -> Sender {
         Sender::fresh(KEY, 2, ADDRESS).1

@@ -1,15 +1,13 @@
 //! Frames from a seed, for comparing two programs on them: good ones of every header shape, and damaged ones. The same seed gives the
 //! same frames everywhere.
 
-use crate::frame::{header_length, qos_place, MAX_BODY, MAX_HEADER, MAX_NUMBER};
+use crate::frame::{header_length, qos_place, ADDED, MAX_BODY, MAX_HEADER, MAX_NUMBER, ORDER, PROTECTED};
 use std::ops::Range;
 
-/// Bit b14, in the second octet of Frame Control.
-pub const PROTECTED: u8 = 0x40;
-/// Bit b15, in the same octet.
-pub const ORDER: u8 = 0x80;
+/// A Frame Control for each header shape.
+pub const CONTROLS: [[u8; 2]; 6] = [[0x08, 0x00], [0x88, 0x00], [0x08, 0x03], [0x88, 0x03], [0x88, 0x80], [0x88, 0x83]];
 /// A sealed frame of this length has all its regions, whatever its Frame Control says.
-pub const SHORTEST_SEALED: usize = MAX_HEADER + 1 + 16;
+pub const SHORTEST_SEALED: usize = MAX_HEADER + 1 + ADDED;
 
 /// SplitMix64.
 pub struct Random(pub u64);
@@ -102,7 +100,7 @@ impl Random {
             }
             3 => set_number(&mut frame[header..], 0),
             4 => set_number(&mut frame[header..], MAX_NUMBER - self.draw() % 3),
-            5 => frame.truncate(header + 16 + self.below(3)),
+            5 => frame.truncate(header + ADDED + self.below(3)),
             6 | 7 => self.spoil(frame),
             8 => frame[1] ^= ORDER,
             _ => {

@@ -3,12 +3,11 @@
 
 use proved::exported::{bench_ccmp_open, bench_ccmp_seal};
 use proved::Told;
-use second::frame::{header_length, Receiver, Sender, MAX_BODY};
+use second::frame::{header_length, Receiver, Sender, ADDED, MAX_BODY};
+use second::sample::CONTROLS;
 use std::arch::asm;
 
 const STACK: usize = 1 << 16;
-/// A Frame Control for each header shape.
-const CONTROLS: [[u8; 2]; 6] = [[0x08, 0x00], [0x88, 0x00], [0x08, 0x03], [0x88, 0x03], [0x88, 0x80], [0x88, 0x83]];
 /// The arguments that go in registers.
 const IN_REGISTERS: usize = 6;
 
@@ -67,7 +66,7 @@ fn main() {
             let mut plain = vec![0x11; header_length(&control) + length];
             plain[..2].copy_from_slice(&control);
             plain[10..16].copy_from_slice(&address);
-            let (mut text, mut out) = (vec![0; plain.len() + 16], vec![0; plain.len()]);
+            let (mut text, mut out) = (vec![0; plain.len() + ADDED], vec![0; plain.len()]);
             sealed = sealed.max(sealing(&mut stack, filling, sender.clone(), &mut plain, &mut text));
             opened = opened.max(opening(&mut stack, filling, receiver.clone(), &mut text, &mut out));
             assert_eq!(plain, out);

@@ -4,12 +4,12 @@
 //!   generate SEED LINES        a SEED of 15 modulo 16 gives a bad line 1
 #![forbid(unsafe_code)]
 
-use second::frame::{qos_place, Sender, MAX_BODY, MAX_HEADER, MAX_NUMBER};
-use second::sample::{Random, PROTECTED, SHORTEST_SEALED};
+use second::frame::{qos_place, Sender, ADDED, MAX_BODY, MAX_HEADER, MAX_NUMBER, PROTECTED};
+use second::sample::{Random, SHORTEST_SEALED};
 use std::collections::VecDeque;
 use std::io::{self, Write};
 
-const ROOM: usize = MAX_HEADER + MAX_BODY + 16;
+const ROOM: usize = MAX_HEADER + MAX_BODY + ADDED;
 /// Octets that are no digits: the neighbours of the digits, capitals, and what some readers of text take for an end.
 const NOT_DIGITS: [u8; 22] = *b"/:`g@GAFO- \t\0\r\x08\x0b\x0c\x1a\x7f\x80\x85\xff";
 

@@ -3,12 +3,9 @@
 //! and what they hand back is dropped.
 
 use crate::call::{Call, Left, Record};
-use second::frame::{has_ht, header_length, number_in, Receiver, Sender, MAX_BODY, MAX_NUMBER};
-use second::sample::{Random, ORDER, SHORTEST_SEALED};
+use second::frame::{has_ht, header_length, number_in, Receiver, Sender, ADDED, MAX_BODY, MAX_NUMBER, ORDER};
+use second::sample::{Random, SHORTEST_SEALED};
 use std::collections::VecDeque;
-
-/// What sealing adds to a frame.
-const ADDED: usize = 16;
 
 pub struct List {
     seed: u64,

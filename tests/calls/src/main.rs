@@ -8,8 +8,7 @@ mod generate;
 
 use call::{Call, Left, Record};
 use generate::List;
-use second::frame::{has_ht, header_length, Receiver};
-use second::sample::ORDER;
+use second::frame::{has_ht, header_length, Receiver, ORDER};
 use std::collections::BTreeMap;
 
 const LIST: usize = 250;
@@ -86,7 +85,7 @@ fn stop(words: String) -> ! {
 
 fn main() {
     let numbers: Vec<u64> = std::env::args().skip(1).map(|argument| argument.parse().unwrap_or_else(|_| stop("calls [CALLS [SEED]]".into()))).collect();
-    let calls = numbers.first().map_or(400_000, |&calls| calls as usize);
+    let calls = numbers.first().map_or(WHOLE_RUN, |&calls| calls as usize);
     let first_seed = numbers.get(1).copied().unwrap_or(1);
     let lists = calls.div_ceil(LIST);
     let mut seen = Seen::default();
