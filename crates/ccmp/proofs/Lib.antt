@@ -7,5 +7,6 @@ mod Keys
 mod Masks
 mod Modes
 mod Numbers
+mod Parts
 mod Verdicts
 mod Writes

@@ -20,8 +20,13 @@ pub use record::fresh_receiver;
 pub use record::fresh_sender;
 pub use record::new_receiver;
 pub use record::new_sender;
+pub use record::sound_sender;
 pub use sealing::MOST_BODY;
 pub use sealing::seal;
+pub use sealing::seal_parts;
+pub use verdict::Verdict;
+pub use verdict::header_tests;
+pub use verdict::outside;
 
 // What a call on a sender answers, and the sender afterwards.
 pub struct Sealed {

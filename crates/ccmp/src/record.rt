@@ -42,7 +42,7 @@ fn counters_fit(replay: [u64; PRIORITIES]) -> bool
     true
 }
 
-pub(crate) fn sound_sender(s: Sender) -> bool
+pub fn sound_sender(s: Sender) -> bool
     ensures { λ r. ⌜ r ≡ soundSender s ⌝ }
 {
     if MOST_KEY_ID < s.key_id {

@@ -1,13 +1,13 @@
 -- Test by test, after those that passed before.
 use mathlib.Core.Path.{_≡_, sym, ap, _∙_}
 use mathlib.Core.Bool.{true, false}
-use mathlib.Core.List.{List}
+use mathlib.Core.List.{List, _++_}
 use Prim.Native.Nat.{ℕ, _+_, _-_}
 use native.Mathlib.Omega.{arith}
 use borrow.Author.Tests.{lt-ltb, le-ltb, eq-eqb, ne-eqb, not-true, not-false}
 use borrow.Author.Needs.{needs}
 use lib.Dec.{ltb}
-use lib.ListN.{length}
+use lib.ListN.{length, length-append}
 use Rattle.octets.specs.Octets.{same}
 use Rattle.rules.specs.Limits.{mostNumber, leastBody, mostBody}
 use Rattle.rules.specs.Header.{headerLength, address2}
@@ -15,45 +15,50 @@ use Rattle.rules.specs.Mode.{added}
 use Rattle.rules.specs.Answers.{outside}
 use Rattle.rules.proofs.Fields.{header-range}
 use Rattle.rules.proofs.Passing.{inside}
-use Rattle.ccmp.proofs.Headers.{Fields, fields-of}
-use Rattle.ccmp.proofs.Verdicts.{Headed, headed}
+use Rattle.ccmp.proofs.Verdicts.{Headed}
+use Rattle.ccmp.proofs.Parts.{whole-header, whole-address, head-exact, headed-whole}
 use Rattle.ccmp.proofs.sealing.later_tests.Statement.{statement}
 use Rattle.ccmp.proofs.sealing.later_tests.Tie as tie
 
+-- the frame that the two parts make
 abbrev F : tie.Start → List ℕ
-F c = c .args .frame .now
+F c = c .args .head .now ++ c .args .body .now
 
 abbrev start : tie.Else1 → tie.Start
 start c = c .before .before .before .before
 
 head : (c : tie.Start) → Headed 1 (F c) (c .args .header)
-head c = headed 1 (F c) (c .args .header) (c .pre .1)
+head c = headed-whole (c .args .head .now) (c .args .body .now) (c .args .header) (c .pre .1)
 
-fields : (c : tie.Start) → Fields (F c) (c .args .header)
-fields c = fields-of (F c) (c .args .header) (head c .is)
+exact : (c : tie.Start) → length (c .args .head .now) ≡ headerLength (c .args .head .now)
+exact c = head-exact (c .args .head .now) (c .args .body .now) (c .args .header) (c .pre .1)
+
+size : (c : tie.Start) → length (F c) ≡ length (c .args .head .now) + length (c .args .body .now)
+size c = length-append (c .args .head .now) (c .args .body .now)
 
 -- the octets after the header
 body-is : (c : tie.After-outside) → let s = c .before .before .before in outside leastBody mostBody (length (F s) - headerLength (F s)) ≡ c .outside .result
 body-is c =
     let s = c .before .before .before in
-    ap (λ (k : ℕ). outside leastBody mostBody (length (F s) - k)) (sym (fields s .length-is)) ∙ sym (c .outside .ensures)
+    let after : length (F s) - headerLength (F s) ≡ length (s .args .body .now)
+    = omega (arith, size s, exact s, whole-header (s .args .head .now) (s .args .body .now) (exact s)) in
+    ap (outside leastBody mostBody) after ∙ sym (c .outside .ensures)
 
 within : (c : tie.Else1) → let s = start c in outside leastBody mostBody (length (F s) - headerLength (F s)) ≡ false
 within c = body-is (c .before) ∙ c .if1 .left
 
 room-holds : (c : tie.Else2) → let s = start (c .before) in ltb (s .args .room) (length (F s) + added) ≡ false
-room-holds c = le-ltb _ _ (c .if2 .left)
+room-holds c = let s = start (c .before) in le-ltb (s .args .room) (length (F s) + added) (omega (arith, c .if2 .left, size s))
 
 -- A2, as it is compared
 own-is : (c : tie.After-equal) → let s = start (c .before .before .before .before .before) in same (address2 (F s)) (s .args .s .address) ≡ c .equal .result
 unfolding address2
-own-is c = sym (c .equal .ensures)
+own-is c =
+    let s = start (c .before .before .before .before .before) in
+    ap (λ (a : List ℕ). same a (s .args .s .address)) (whole-address (s .args .head .now) (s .args .body .now) (exact s)) ∙ sym (c .equal .ensures)
 
 own : (c : tie.Else3) → let s = start (c .before .before .before .before .before .before) in same (address2 (F s)) (s .args .s .address) ≡ true
 own c = own-is (c .before) ∙ not-false _ (c .if3 .left)
-
-sub-outside : tie.Need-sub-outside
-sub-outside c = let s = c .before .before in omega (arith, fields s .length-is, head s .whole)
 
 returns : tie.Need-returns
 returns c =
@@ -61,17 +66,20 @@ returns c =
     let h = head s in
     rw (s .pre .0, h .short, h .kind, h .mark, h .cut, body-is (c .before) ∙ c .if1 .taken)
 
-add-if2 : tie.Need-add-if2
-add-if2 c = let f = F (start c) in record { fits = omega (arith, inside leastBody mostBody (length f - headerLength f) (within c), header-range f) }
+add-room : tie.Need-add-if2-2
+add-room c =
+    let s = start c in
+    let f = F s in
+    record { fits = omega (arith, inside leastBody mostBody (length f - headerLength f) (within c), header-range f, size s, head s .whole) }
 
 returns-2 : tie.Need-returns-2
 returns-2 c =
     let s = start (c .before) in
     let h = head s in
-    rw (s .pre .0, h .short, h .kind, h .mark, h .cut, within (c .before), lt-ltb _ _ (c .if2 .taken))
+    rw (s .pre .0, h .short, h .kind, h .mark, h .cut, within (c .before), lt-ltb (s .args .room) (length (F s) + added) (omega (arith, c .if2 .taken, size s)))
 
 part-equal-end : tie.Need-part-equal-end
-part-equal-end c = omega (arith, head (start (c .before .before)) .long)
+part-equal-end c = let s = start (c .before .before) in omega (arith, exact s, header-range (s .args .head .now))
 
 returns-3 : tie.Need-returns-3
 returns-3 c =
@@ -94,16 +102,16 @@ returns-5 c =
     let else = owned .before .before .before .before .before in
     let s = start (else .before) in
     let h = head s in
-    rw (s .pre .0, h .short, h .kind, h .mark, h .cut, within (else .before), room-holds else, own owned, ne-eqb (s .args .s .last) mostNumber (c .if4 .left), h .is)
+    rw (s .pre .0, h .short, h .kind, h .mark, h .cut, within (else .before), room-holds else, own owned, ne-eqb (s .args .s .last) mostNumber (c .if4 .left))
 
 pub later-tests-spec : {M : Type 1} → statement M
 later-tests-spec =
     tie.close
     (tie.spec
-    sub-outside
     (λ c κs. search needs)
     returns
-    add-if2
+    (λ c. search needs)
+    add-room
     returns-2
     (λ c. search needs)
     (λ c. search needs)
