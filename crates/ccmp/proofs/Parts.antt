@@ -20,8 +20,8 @@ module _ (head body : List ℕ) (exact : length head ≡ headerLength head) wher
   range : (leastHeader ≤ headerLength head) × (headerLength head ≤ mostHeader)
   range = header-range head
 
-  octet : (i : ℕ) → i ≤ 1 → getD (head ++ body) i 0 ≡ getD head i 0
-  octet i l = List·getD-append head body 0 i (omega (arith, range))
+  octet : (i : ℕ) → i < headerLength head → getD (head ++ body) i 0 ≡ getD head i 0
+  octet i l = List·getD-append head body 0 i (omega arith)
 
   pub whole-size : length (head ++ body) ≡ headerLength head + length body
   whole-size = omega (arith, length-append head body)
@@ -29,9 +29,9 @@ module _ (head body : List ℕ) (exact : length head ≡ headerLength head) wher
   alike : Alike head (head ++ body) (headerLength head)
   alike =
       record {
-        octet = λ i l ne. List·getD-append head body 0 i (omega arith);
-        low = ap (λ (x : ℕ). x % 64) (octet 1 (omega arith));
-        high = ap (λ (x : ℕ). x / 128) (octet 1 (omega arith));
+        octet = λ i l ne ne′. octet i (omega arith);
+        low = ap (λ (x : ℕ). x % 4) (octet 1 (omega (arith, range)));
+        high = ap (λ (x : ℕ). x / 128) (octet 1 (omega (arith, range)));
         long-f = omega arith;
         long-g = omega (arith, whole-size);
       }
@@ -43,7 +43,7 @@ module _ (head body : List ℕ) (exact : length head ≡ headerLength head) wher
   whole-kind = kind-alike head (head ++ body) (headerLength head) alike (range .0)
 
   pub whole-mark : protected (head ++ body) ≡ protected head
-  whole-mark = ap (λ (x : ℕ). x / 64 % 2) (octet 1 (omega arith))
+  whole-mark = ap (λ (x : ℕ). x / 64 % 2) (octet 1 (omega (arith, range)))
 
   pub whole-address : address2 (head ++ body) ≡ address2 head
   whole-address = address-alike head (head ++ body) (headerLength head) alike (range .0)
@@ -52,11 +52,13 @@ module _ (head body : List ℕ) (exact : length head ≡ headerLength head) wher
   whole-priority = priority-alike head (head ++ body) (headerLength head) alike (range .0) refl
 
   pub whole-data : authenticated (head ++ body) ≡ authenticated head
-  whole-data = authenticated-alike head (head ++ body) (headerLength head) alike (range .0) refl
+  whole-data =
+      authenticated-alike head (head ++ body) (headerLength head) alike (range .0) refl
+      (ap (λ (x : ℕ). x % 8) (octet 1 (omega (arith, range)))) (octet 22 (omega (arith, range)))
 
   pub header-whole : headerOf (head ++ body) ≡ headerOf head
   unfolding headerOf qosPlace authenticatedLength headerLength
-  header-whole = rw (octet 0 (omega arith), octet 1 (omega arith), whole-priority)
+  header-whole = rw (octet 0 (omega (arith, range)), octet 1 (omega (arith, range)), whole-priority)
 
   pub front-whole : take (headerLength head) (head ++ body) ≡ head
   front-whole = take-at head body (headerLength head) exact

@@ -4,6 +4,7 @@ use mathlib.Core.Bool.{Bool, true, false, cond}
 use mathlib.Core.List.{List}
 use Prim.Native.Nat.{ℕ, _+_, _-_, _%_}
 use native.Mathlib.Omega.{arith}
+use borrow.Author.Tests.{ne-eqb}
 use lib.Dec.{T, eqb}
 use lib.ListN.{length}
 use Rattle.rules.specs.Limits.{countLimit}
@@ -11,16 +12,19 @@ use Rattle.rules.specs.Header.{priority}
 use Rattle.rules.specs.Nonce.{number}
 use Rattle.rules.specs.Mode.{added}
 use Rattle.rules.specs.Records.{senderNext, formatCount, replayCount, decryptCount, openedCount, countOf, counted, receiverNext}
-use Rattle.rules.specs.Answers.{among, answerNumber}
+use Rattle.rules.specs.Answers.{Test, among, answerNumber, firstOf}
 use Rattle.rules.specs.Sealing.{sealTests, sealAnswer, sealOutput}
 use Rattle.rules.specs.Opening.{openTests, openAnswer, openOutput}
+use Rattle.rules.specs.Splitting.{fragments, sealedLength, splitTests, splitAnswer, splitterNext, splitOutput}
+use Rattle.rules.specs.Joining.{returned, joinTests, joinAnswer, joinerNext, joinOutput}
 use Rattle.rules.specs.Counts.{bit}
-use Rattle.rules.specs.Demand1.{sealNumbers, openNumbers, formatAnswers, replayAnswers, decryptAnswers, openedAnswers, oneMore, Demand1}
+use Rattle.rules.specs.Demand1.{sealNumbers, splitNumbers, joinNumbers, openNumbers, formatAnswers, replayAnswers, decryptAnswers, openedAnswers, oneMore, Demand1}
 use Rattle.rules.specs.declared.Sender.{Sender}
 use Rattle.rules.specs.declared.Receiver.{Receiver}
+use Rattle.rules.specs.declared.Joiner.{Joiner}
 use Rattle.rules.specs.declared.Answer.{Answer}
 use Rattle.rules.specs.declared.Answer.the-variants.{Done}
-use Rattle.rules.proofs.Passing.{of-first}
+use Rattle.rules.proofs.Passing.{ofEach, of-first}
 use Rattle.rules.proofs.Moves.{moves, has, each-moves}
 
 is-true : (b : Bool) → T b → b ≡ true
@@ -37,21 +41,42 @@ one-more : (c : ℕ) (ns : List ℕ) (a : Answer) (v : ℕ) → moves c a ≡ ha
 one-more c ns a v e =
     ap (λ (b : Bool). cond b ((v + 1) % countLimit) v) (same-bit (eqb (countOf a) c) (among ns (answerNumber a)) e)
 
+-- the answers of a list of tests have these numbers where each test's does, and done
+numbered : (ns : List ℕ) (ts : List Test) (d : Answer) → T (ofEach (λ a. among ns (answerNumber a)) ts) → T (among ns (answerNumber d))
+    → among ns (answerNumber (firstOf ts d)) ≡ true
+numbered ns ts d h e = is-true _ (of-first (λ a. among ns (answerNumber a)) ts d h e)
+
 seal-numbered : (s : Sender) (f room : List ℕ) → among sealNumbers (answerNumber (sealAnswer s f room)) ≡ true
 unfolding sealAnswer
-seal-numbered s f room =
-    is-true _ (of-first (λ a. among sealNumbers (answerNumber a)) (sealTests s f (length room)) (Done (s .last + 1) (priority f) (length f + added)) tt tt)
+seal-numbered s f room = numbered sealNumbers (sealTests s f (length room)) (Done (s .last + 1) (priority f) (length f + added)) tt tt
+
+split-numbered : (s : Sender) (size : ℕ) (f room : List ℕ) → among splitNumbers (answerNumber (splitAnswer s size f room)) ≡ true
+unfolding splitAnswer
+split-numbered s size f room =
+    numbered splitNumbers (splitTests s size f (length room)) (Done (s .last + 1) (priority f) (sealedLength (fragments size f))) tt tt
+
+join-numbered : (j : Joiner) (f : List ℕ) (n : ℕ) (room : List ℕ) → among joinNumbers (answerNumber (joinAnswer j f n room)) ≡ true
+unfolding joinAnswer
+join-numbered j f n room = numbered joinNumbers (joinTests j f n (length room)) (Done n (priority f) (length (returned j f))) tt tt
 
 open-numbered : (r : Receiver) (f room : List ℕ) → among openNumbers (answerNumber (openAnswer r f room)) ≡ true
 unfolding openAnswer
-open-numbered r f room =
-    is-true _ (of-first (λ a. among openNumbers (answerNumber a)) (openTests r f (length room)) (Done (number f) (priority f) (length f - added)) tt tt)
+open-numbered r f room = numbered openNumbers (openTests r f (length room)) (Done (number f) (priority f) (length f - added)) tt tt
 
 pub demand-1 : Demand1
-unfolding senderNext receiverNext sealOutput openOutput
+unfolding senderNext splitterNext joinerNext receiverNext sealOutput splitOutput joinOutput openOutput
 demand-1 = (
   (λ s f room.
       record { numbered = seal-numbered s f room; record-kept = λ x e. rw e; output-kept = λ x e. rw e }),
+  (λ s size f room.
+      record { numbered = split-numbered s size f room; record-kept = λ x e. rw e; output-kept = λ x e. rw e }),
+  (λ j f n room.
+      record {
+        numbered = join-numbered j f n room;
+        joiner-kept = λ x e ne. rw (e, ne-eqb x 14 ne);
+        joiner-emptied = λ e. rw e;
+        output-kept = λ x e. rw e;
+      }),
   (λ r f room.
       record {
         numbered = open-numbered r f room;

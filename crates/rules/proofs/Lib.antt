@@ -7,9 +7,16 @@ pub mod Sealed
 pub mod Resealed
 pub mod Exactly
 pub mod Rooms
+pub mod Pieces
+pub mod Fragmented
+pub mod Splits
+pub mod Sends
 pub mod Sums
 pub mod Runs
 pub mod Delivery
 pub mod Counting
 pub mod Numbering
+pub mod Joined
+pub mod Returning
+pub mod Mixing
 pub mod Examples

@@ -89,7 +89,7 @@ module _ (s : Sender) (f : List ℕ) (n : ℕ) (ok : Sealable s f) where
   sealed-alike : Alike f (sealedFrame s n f) (headerLength f)
   sealed-alike =
       record {
-        octet = other-octet;
+        octet = λ i l ne ne′. other-octet i l ne;
         low = let e = first-octet in omega arith;
         high = let e = first-octet in omega arith;
         long-f = ok .whole;
@@ -120,7 +120,9 @@ module _ (s : Sender) (f : List ℕ) (n : ℕ) (ok : Sealable s f) where
   sealed-priority = priority-alike f (sealedFrame s n f) (headerLength f) sealed-alike (range .0) refl
 
   sealed-authenticated : authenticated (sealedFrame s n f) ≡ authenticated f
-  sealed-authenticated = authenticated-alike f (sealedFrame s n f) (headerLength f) sealed-alike (range .0) refl
+  sealed-authenticated =
+      authenticated-alike f (sealedFrame s n f) (headerLength f) sealed-alike (range .0) refl
+      (let e = first-octet in omega arith) (other-octet 22 (omega (arith, range)) (omega arith))
 
   sealed-address : address2 (sealedFrame s n f) ≡ address2 f
   sealed-address = address-alike f (sealedFrame s n f) (headerLength f) sealed-alike (range .0)

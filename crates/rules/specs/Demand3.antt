@@ -4,32 +4,32 @@ use mathlib.Core.Bool.{Bool, true}
 use mathlib.Core.List.{List, _++_}
 use mathlib.Core.Logic.{_↔_}
 use Prim.Native.Nat.{ℕ, _<_, _≤_}
-use lib.ListN.{length, take, drop}
+use lib.ListN.{length, drop}
 use Rattle.rules.specs.Header.{priority}
 use Rattle.rules.specs.Records.{freshAnswer, freshSender, freshReceiver}
 use Rattle.rules.specs.Answers.{noneApplies}
 use Rattle.rules.specs.Tests.{headerTests}
-use Rattle.rules.specs.Calls.{Call, at, OctetFrames, sealAnswerAt, sealOutputAt, openRun, openAnswerAt, openOutputAt}
+use Rattle.rules.specs.Calls.{Call, at, OctetFrames, openRun, openAnswerAt, openOutputAt}
+use Rattle.rules.specs.Sending.{SenderCall, Sent, Among, sent}
 use Rattle.rules.specs.declared.Sender.{Sender}
 use Rattle.rules.specs.declared.Receiver.{Receiver}
 use Rattle.rules.specs.declared.Answer.the-variants.{Done, Refused}
 
--- call j of ds delivers, unchanged and with room for the original, what call i of cs sealed under number n and priority p
-pub record Delivers (s : Sender) (cs ds : List Call) (i j n p : ℕ) : Type 0 where
-  pub i-below : i < length cs
-  pub j-below : j < length ds
-  pub octets : ℕ
-  pub done : sealAnswerAt s cs i ≡ Done n p octets
-  pub unchanged : at ds j .frame ≡ take octets (sealOutputAt s cs i)
-  pub enough : length (at cs i .frame) ≤ length (at ds j .room)
+-- call j of ds delivers the sealed frame x unchanged, with room for its original
+pub record Delivers (x : Sent) (ds : List Call) (j : ℕ) : Type 0 where
+  pub below : j < length ds
+  pub unchanged : at ds j .frame ≡ x .octets
+  pub enough : length (x .original) ≤ length (at ds j .room)
 
--- n is above every number that the calls before j opened in priority p
-abbrev pub AboveOpened : Receiver → List Call → ℕ → ℕ → ℕ → Type 0
-AboveOpened r ds j p n = (j′ n′ k′ : ℕ) → j′ < j → openAnswerAt r ds j′ ≡ Done n′ p k′ → n′ < n
+-- x's number is above every number that the calls before j opened in its priority
+abbrev pub AboveOpened : Receiver → List Call → ℕ → Sent → Type 0
+AboveOpened r ds j x = (j′ n′ k′ : ℕ) → j′ < j → openAnswerAt r ds j′ ≡ Done n′ (x .priority) k′ → n′ < x .number
 
--- call j opens to the original f: done with its number, priority and length, and the room holds f and then the rest as it was
-abbrev pub OpensTo : Receiver → List Call → ℕ → ℕ → ℕ → List ℕ → Type 0
-OpensTo r ds j n p f = (openAnswerAt r ds j ≡ Done n p (length f)) × (openOutputAt r ds j ≡ f ++ drop (length f) (at ds j .room))
+-- call j opens to x's original: done with its number, priority and length, and the room holds it and then the rest as it was
+abbrev pub OpensTo : Receiver → List Call → ℕ → Sent → Type 0
+OpensTo r ds j x =
+    (openAnswerAt r ds j ≡ Done (x .number) (x .priority) (length (x .original)))
+    × (openOutputAt r ds j ≡ x .original ++ drop (length (x .original)) (at ds j .room))
 
 -- call j is answered as a replay, and its room is as it was
 abbrev pub IsReplayed : Receiver → List Call → ℕ → Type 0
@@ -53,12 +53,12 @@ pub record Rearranged (xs ys : List Call) : Type 0 where
       (i j : ℕ) → i < j → j < length xs → hasPriority (at xs i .frame) ≡ true → hasPriority (at xs j .frame) ≡ true
       → priority (at xs i .frame) ≡ priority (at xs j .frame) → to i < to j
 
--- first half: a sealed frame delivered unchanged opens to its original exactly when its number is above all those opened before in its
--- priority, and is otherwise a replay, whatever else arrives between
+-- first half: a frame that calls on the sender sealed, delivered unchanged, opens to its original exactly when its number is above all
+-- those opened before in its priority, and is otherwise a replay, whatever else arrives between
 abbrev pub Delivered : Sender → Receiver → Type 0
 Delivered s r =
-    (cs ds : List Call) (i j n p : ℕ) → OctetFrames ds → Delivers s cs ds i j n p
-    → (OpensTo r ds j n p (at cs i .frame) ↔ AboveOpened r ds j p n) × (¬ (AboveOpened r ds j p n) → IsReplayed r ds j)
+    (cs : List SenderCall) (ds : List Call) (x : Sent) (j : ℕ) → Among x (sent s cs) → OctetFrames ds → Delivers x ds j
+    → (OpensTo r ds j x ↔ AboveOpened r ds j x) × (¬ (AboveOpened r ds j x) → IsReplayed r ds j)
 
 -- second half: two orders that agree within each priority give each delivery the same answer and output, and leave the same record
 abbrev pub Reordered : Receiver → Type 0

@@ -7,10 +7,14 @@ pub mod Answers
 pub mod Tests
 pub mod Sealing
 pub mod Opening
+pub mod Splitting
+pub mod Joining
 pub mod Calls
+pub mod Sending
 pub mod Demand1
 pub mod Demand2
 pub mod Demand3
 pub mod Counts
 pub mod Numbers
+pub mod Fragments
 pub mod Examples

@@ -59,6 +59,9 @@ bodyOf key f = openedBody key (nonce (priority f) (address2 f) (number f)) (auth
 abbrev pub codeTest : List ℕ → List ℕ → List Test
 codeTest key f = (isNone (bodyOf key f) ⇒ 11) ∷ []
 
--- whether a packet number is left
+-- whether a packet number is left, and whether so many are
 abbrev pub spentTest : ℕ → List Test
 spentTest last = (eqb last mostNumber ⇒ 12) ∷ []
+
+abbrev pub leftTest : ℕ → ℕ → List Test
+leftTest last count = (ltb (mostNumber - last) count ⇒ 12) ∷ []

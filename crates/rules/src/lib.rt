@@ -1,4 +1,4 @@
-// The records and answers of document 01 as types. Their rules, and what follows from them over whole lists of calls, are
+// The records and answers of documents 01 and 02 as types. Their rules, and what follows from them over whole lists of calls, are
 // in specs/ and proofs/; this crate has no function.
 
 // The octets of a temporal key and of an address, and how many priorities there are.
@@ -7,6 +7,9 @@ pub const KEY_OCTETS: usize = 16;
 pub const ADDRESS_OCTETS: usize = 6;
 
 pub const PRIORITIES: usize = 16;
+
+// The octets of a message at most.
+pub const MOST_MESSAGE: usize = 2304;
 
 // What a sealing call takes and hands back.
 pub struct Sender {
@@ -33,6 +36,27 @@ pub struct Counts {
     pub replays: u32,
     pub decrypt_errors: u32,
     pub opened: u32,
+}
+
+// What a joining call takes and hands back, all zeros where no message is held.
+pub struct Joiner {
+    // The message so far, in the first `length` octets.
+    pub held: [u8; MOST_MESSAGE],
+    pub length: usize,
+    // The fragment that came last.
+    pub last: Fragment,
+}
+
+// By what a fragment is told from others.
+pub struct Fragment {
+    // A2.
+    pub address: [u8; ADDRESS_OCTETS],
+    pub priority: u8,
+    // The sequence number and the fragment number.
+    pub sequence: u16,
+    pub fragment: u8,
+    // The packet number.
+    pub number: u64,
 }
 
 // What a frame says of its own header.
