@@ -5,9 +5,10 @@ use lib.ListN.{getD}
 use Rattle.ccm.specs.declared.Outcome.{Outcome}
 use Rattle.ccm.specs.declared.Outcome.the-variants.{Done, Refused}
 use Rattle.rules.specs.Answers.{told}
-use Rattle.rules.specs.Records.{newSender, newReceiver}
+use Rattle.rules.specs.Records.{newSender, newReceiver, withLast}
 use Rattle.rules.specs.declared.Answer.{Answer}
 use Rattle.rules.specs.declared.Counts.{Counts}
+use Rattle.rules.specs.declared.Joiner.{Joiner}
 use Rattle.rules.specs.declared.Receiver.{Receiver}
 use Rattle.rules.specs.declared.Sender.{Sender}
 
@@ -15,10 +16,6 @@ use Rattle.rules.specs.declared.Sender.{Sender}
 abbrev pub number : Outcome → ℕ
 number (Done n) = n
 number Refused = 0xffff_ffff_ffff_ffff
-
--- a sender with this last number
-abbrev pub withLast : Sender → ℕ → Sender
-withLast s last = record { key = s .key; «key_id» = s .«key_id»; address = s .address; last = last }
 
 abbrev pub sender : List ℕ → ℕ → List ℕ → ℕ → Sender
 sender key keyId address last = withLast (newSender key keyId address) last
@@ -35,6 +32,15 @@ withCounters r replay counts =
 
 abbrev pub receiver : List ℕ → ℕ → List ℕ → List ℕ → List ℕ → Receiver
 receiver key keyId peer replay counts = withCounters (newReceiver key keyId peer) replay counts
+
+-- a joiner with this last fragment
+abbrev pub joiner : List ℕ → ℕ → List ℕ → ℕ → ℕ → ℕ → ℕ → Joiner
+joiner held length address priority sequence fragment number =
+    record {
+      held = held;
+      length = length;
+      last = record { address = address; priority = priority; sequence = sequence; fragment = fragment; number = number };
+    }
 
 -- four numbers, zeros after a first one that stands alone
 abbrev pub padded : List ℕ → List ℕ

@@ -11,7 +11,7 @@ ghost use Rattle.rules.specs.Sealing.{sealAnswer, sealNext, sealOutput};
 ghost use Rattle.bench.specs.Numbers.{sender, receiver, parts};
 
 // The answer's number, and the packet number, the priority and the octets written, which are 0 after a refusal.
-fn parts_of(a: Answer) -> [u64; 4]
+pub(crate) fn parts_of(a: Answer) -> [u64; 4]
     ensures { λ r. ⌜ r ≡ parts a ⌝ }
 {
     match a {
@@ -20,7 +20,7 @@ fn parts_of(a: Answer) -> [u64; 4]
     }
 }
 
-fn sender_of(key: [u8; 16], key_id: u8, address: [u8; 6], last: u64) -> Sender
+pub(crate) fn sender_of(key: [u8; 16], key_id: u8, address: [u8; 6], last: u64) -> Sender
     ensures { λ s. ⌜ s ≡ sender key «key_id» address last ⌝ }
 {
     let mut s = ccmp::new_sender(key, key_id, address);

@@ -1,28 +1,33 @@
 -- From what the parts of `seal` and `open` give to their answers, records and outputs.
-use mathlib.Core.Path.{_≡_, refl, ap, ap₂, _∙_}
+use mathlib.Core.Path.{_≡_, refl, sym, ap, ap₂, _∙_}
 use mathlib.Core.Bool.{true, false}
 use mathlib.Core.List.{List, [], _++_}
-use Prim.Native.Nat.{ℕ, _+_, _-_}
+use Prim.Native.Nat.{ℕ, _+_, _-_, _≤_}
+use native.Mathlib.Omega.{arith}
+use borrow.Author.Tests.{ne-eqb, le-leb, le-ltb}
 use lib.ListN.{length, drop}
 use Rattle.octets.specs.Options.{isNone}
-use Rattle.rules.specs.Header.{priority, headerOf}
+use Rattle.rules.specs.Limits.{mostNumber, mostKeyId, leastHeader}
+use Rattle.rules.specs.Header.{headerLength, priority, protected, headerOf}
 use Rattle.rules.specs.Nonce.{number}
 use Rattle.rules.specs.Mode.{added}
-use Rattle.rules.specs.Records.{soundSender, senderNext, receiverNext}
+use Rattle.rules.specs.Records.{soundSender, withLast, senderNext, receiverNext}
 use Rattle.rules.specs.Answers.{told, firstOf, noneApplies}
 use Rattle.rules.specs.Tests.{headerTests, bodyOf, codeTest}
-use Rattle.rules.specs.Sealing.{sealedFrame, sealTests, sealAnswer, sealNext, sealOutput}
+use Rattle.rules.specs.Sealing.{sealedFrame, sealTests, sealAnswer, sealNext, sealOutput, Sealable}
 use Rattle.rules.specs.Opening.{openedFrame, earlierTests, openAnswer, openNext, openOutput}
 use Rattle.rules.specs.declared.Header.{Header}
 use Rattle.rules.specs.declared.Sender.{Sender}
 use Rattle.rules.specs.declared.Receiver.{Receiver}
 use Rattle.rules.specs.declared.Answer.{Answer}
 use Rattle.rules.specs.declared.Answer.the-variants.{Done, Refused}
-use Rattle.rules.proofs.Passing.{later, all-done, after-all}
+use Rattle.rules.proofs.Fields.{header-range}
+use Rattle.rules.proofs.Passing.{later, all-done, after-all, seal-answers}
 use Rattle.ccmp.specs.Verdict.{verdict}
 use Rattle.ccmp.specs.Parts.{headTests, partsAnswer, partsNext, partsOutput}
 use Rattle.ccmp.specs.declared.verdict.Verdict.the-variants.{Refuse}
 use Rattle.ccmp.proofs.Verdicts.{refuses, refused}
+use Rattle.ccmp.proofs.Parts.{front-header, whole-kind, whole-mark}
 
 -- what a call hands back: its answer, the record and the output
 abbrev pub Sealed : Sender → List ℕ → List ℕ → Answer → Sender → List ℕ → Type 0
@@ -75,6 +80,35 @@ module _ (s : Sender) (head body o : List ℕ) where
       → PartsSealed s head body o a t out
   unfolding sealOutput partsOutput
   parts-give a t out passes e = rw (parts-whole passes) e
+
+  -- a frame that the sender seals, in its header and its body
+  module _ (ok : Sealable s (head ++ body)) (is : length head ≡ headerLength (head ++ body)) (enough : length (head ++ body) + added ≤ length o) where
+    exact : length head ≡ headerLength head
+    exact = is ∙ front-header head body (omega (arith, is, header-range (head ++ body)))
+
+    head-passes : noneApplies (headTests s head) ≡ true
+    unfolding soundSender
+    head-passes =
+        rw (
+          le-leb (s .«key_id») mostKeyId (ok .id-fits),
+          le-leb (s .last) mostNumber (omega (arith, ok .unspent)),
+          le-ltb (length head) leastHeader (omega (arith, exact, header-range head)),
+          sym (whole-kind head body exact) ∙ ok .kind,
+          ne-eqb (protected head) 1 (λ e. omega (arith, ok .plain, whole-mark head body exact)),
+          le-ltb (length head) (headerLength head) (omega (arith, exact)),
+          le-ltb (headerLength head) (length head) (omega (arith, exact)),
+        )
+
+    parts-done : partsAnswer s head body o ≡ Done (s .last + 1) (priority (head ++ body)) (length (head ++ body) + added)
+    parts-done = parts-whole head-passes ∙ seal-answers s (head ++ body) o ok enough
+
+    pub parts-next : partsNext s head body o ≡ withLast s (s .last + 1)
+    unfolding senderNext
+    parts-next = rw parts-done
+
+    pub parts-output : partsOutput s head body o ≡ sealedFrame s (s .last + 1) (head ++ body) ++ drop (length (head ++ body) + added) o
+    unfolding partsOutput
+    parts-output = rw parts-done
 
 module _ (r : Receiver) (f o : List ℕ) where
   abbrev openedDone : Answer

@@ -1,12 +1,12 @@
-mod Answering
+pub mod Answering
 mod Counters
 mod Data
 mod Frames
-mod Headers
+pub mod Headers
 mod Keys
 mod Masks
 mod Modes
 mod Numbers
-mod Parts
-mod Verdicts
-mod Writes
+pub mod Parts
+pub mod Verdicts
+pub mod Writes

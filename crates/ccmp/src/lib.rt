@@ -21,6 +21,7 @@ pub use record::fresh_sender;
 pub use record::new_receiver;
 pub use record::new_sender;
 pub use record::sound_sender;
+pub use sealing::LEAST_BODY;
 pub use sealing::MOST_BODY;
 pub use sealing::seal;
 pub use sealing::seal_parts;

@@ -16,7 +16,7 @@ use Rattle.rules.specs.Answers.{Test, among, answerNumber, firstOf}
 use Rattle.rules.specs.Sealing.{sealTests, sealAnswer, sealOutput}
 use Rattle.rules.specs.Opening.{openTests, openAnswer, openOutput}
 use Rattle.rules.specs.Splitting.{fragments, sealedLength, splitTests, splitAnswer, splitterNext, splitOutput}
-use Rattle.rules.specs.Joining.{returned, joinTests, joinAnswer, joinerNext, joinOutput}
+use Rattle.rules.specs.Joining.{freshJoiner, returned, joinTests, joinAnswer, joinerNext, joinOutput}
 use Rattle.rules.specs.Counts.{bit}
 use Rattle.rules.specs.Demand1.{sealNumbers, splitNumbers, joinNumbers, openNumbers, formatAnswers, replayAnswers, decryptAnswers, openedAnswers, oneMore, Demand1}
 use Rattle.rules.specs.declared.Sender.{Sender}
@@ -73,7 +73,7 @@ demand-1 = (
   (λ j f n room.
       record {
         numbered = join-numbered j f n room;
-        joiner-kept = λ x e ne. rw (e, ne-eqb x 14 ne);
+        joiner-kept = λ x e ne. rw e (ap (λ (b : Bool). cond b freshJoiner j) (ne-eqb x 14 ne));
         joiner-emptied = λ e. rw e;
         output-kept = λ x e. rw e;
       }),

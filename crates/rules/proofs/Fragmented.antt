@@ -15,7 +15,7 @@ use Rattle.rules.specs.Splitting.{message, more, fragmentsFrom, sealedLe
 use Rattle.rules.proofs.Fields.{header-range, Alike, kind-alike, length-alike, address-alike, priority-alike}
 use Rattle.rules.proofs.Pieces.{together, more-bit}
 
-set-size : (h : List ℕ) (m i : ℕ) → length (setFragment h m i) ≡ length h
+pub set-size : (h : List ℕ) (m i : ℕ) → length (setFragment h m i) ≡ length h
 unfolding setFragment
 set-size h m i = rw (length-set, length-set)
 
@@ -43,6 +43,7 @@ pub record IsPart (f : List ℕ) (ps : List (List ℕ)) (b : ℕ) (g : List ℕ)
   pub long : leastHeader ≤ length g
   pub kind : wrongKind g ≡ false
   pub plain : protected g ≡ 0
+  pub header-is : headerLength g ≡ headerLength f
   pub whole : headerLength g ≤ length g
   pub least : leastBody ≤ length g - headerLength g
   pub most : length g - headerLength g ≤ mostSize
@@ -128,6 +129,7 @@ module _ (f : List ℕ) (ps : List (List ℕ)) (b : ℕ) (whole : headerLength f
         long = omega (arith, size, range);
         kind = kind-alike f g (headerLength f) alike (range .0) ∙ kind;
         plain = ap (λ (x : ℕ). x % 2) (let z : getD g 1 0 / 64 ≡ getD f 1 0 / 64 = omega arith in z) ∙ plain;
+        header-is = header-is;
         whole = omega (arith, size, header-is);
         least = omega (arith, size, header-is);
         most = omega (arith, size, header-is);

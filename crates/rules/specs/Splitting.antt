@@ -65,8 +65,7 @@ splitTests s size f room =
     inOrder
     (recordTest (soundSender s)
     ∷ headerTests 1 f
-    ∷ ((unfit size (length (message f)) ⇒ 13) ∷ [])
-    ∷ roomTest room (sealedLength (fragments size f))
+    ∷ ((unfit size (length (message f)) ⇒ 13) ∷ roomTest room (sealedLength (fragments size f)))
     ∷ addressTest (s .address) f
     ∷ leftTest (s .last) (length (fragments size f))
     ∷ [])

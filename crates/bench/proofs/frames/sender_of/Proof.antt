@@ -2,7 +2,7 @@
 use mathlib.Core.Path.{ap}
 use borrow.Author.Needs.{needs}
 use Rattle.rules.specs.declared.Sender.{Sender}
-use Rattle.bench.specs.Numbers.{withLast}
+use Rattle.rules.specs.Records.{withLast}
 use Rattle.bench.proofs.frames.sender_of.Statement.{statement}
 use Rattle.bench.proofs.frames.sender_of.Tie as tie
 
