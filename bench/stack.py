@@ -1,5 +1,5 @@
 #!/usr/bin/env python3
-"""The most stack that one seal and one open of a frame can take by the compiled code: each function's return address, pushes, room for locals
+"""The most stack that one seal, open, split and join can take by the compiled code: each function's return address, pushes, room for locals
 and what it uses below the stack pointer (x86-64 gives a function that calls no other 128 octets there), along the deepest chain of calls.
 `memcpy` and `memset` are the platform's and not counted. bench/src/bin/stack.rs measures what calls do take.
 
@@ -27,6 +27,6 @@ def depth(name):
     return frames[name] + inner[0], [f"{name} {frames[name]}"] + inner[1]
 
 
-for name in "bench_ccmp_seal", "bench_ccmp_open":
+for name in "bench_ccmp_seal", "bench_ccmp_open", "bench_split", "bench_join":
     octets, chain = depth(name)
     print(f"{name}: {octets} octets ({', '.join(chain)})")

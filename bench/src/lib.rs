@@ -1,5 +1,6 @@
 //! The proved code for Rust: what `crates/bench` exports.
 
+use second::fragment::Joiner;
 use second::frame::{Receiver, Sender};
 
 /// A slice passes as a pointer and a length.
@@ -24,6 +25,14 @@ pub mod exported {
         pub fn bench_ccmp_open(
             key: &mut [u8; 16], key_id: &mut u8, peer: &mut [u8; 6], replay: &mut [u64; 16], counts: &mut [u32; 4], answer: &mut [u64; 4],
             frame: *const u8, frame_len: usize, out: *mut u8, out_len: usize,
+        );
+        pub fn bench_split(
+            key: &mut [u8; 16], key_id: &mut u8, address: &mut [u8; 6], last: &mut u64, answer: &mut [u64; 4], size: usize, frame: *const u8,
+            frame_len: usize, out: *mut u8, out_len: usize,
+        );
+        pub fn bench_join(
+            held: &mut [u8; 2_304], length: &mut usize, address: &mut [u8; 6], priority: &mut u8, sequence: &mut u16, fragment: &mut u8,
+            last: &mut u64, answer: &mut [u64; 4], frame: *const u8, frame_len: usize, number: u64, out: *mut u8, out_len: usize,
         );
     }
 }
@@ -99,5 +108,26 @@ pub fn open(r: &mut Receiver, frame: &[u8], out: &mut [u8]) -> Told {
         )
     };
     set_counts(r, counts);
+    told
+}
+
+pub fn split(s: &mut Sender, frame: &[u8], size: usize, out: &mut [u8]) -> Told {
+    let (mut told, into) = (UNTOLD, out.as_mut_ptr());
+    unsafe {
+        exported::bench_split(
+            &mut s.key, &mut s.key_id, &mut s.address, &mut s.last_number, &mut told, size, frame.as_ptr(), frame.len(), into, out.len(),
+        )
+    };
+    told
+}
+
+pub fn join(j: &mut Joiner, frame: &[u8], number: u64, out: &mut [u8]) -> Told {
+    let (mut told, into) = (UNTOLD, out.as_mut_ptr());
+    unsafe {
+        exported::bench_join(
+            &mut j.held, &mut j.length, &mut j.address, &mut j.priority, &mut j.sequence, &mut j.fragment, &mut j.number, &mut told,
+            frame.as_ptr(), frame.len(), number, into, out.len(),
+        )
+    };
     told
 }

@@ -2,30 +2,45 @@
 
 use second::aes::Aes128;
 use second::ccm::Ccm;
+use second::fragment::{Joiner, MAX_FRAGMENTS, MAX_MESSAGE};
 use second::frame::{Receiver, Sender, ADDED};
 use std::hint::black_box;
 use std::time::Instant;
 
 const RUNS: usize = 21;
 
-/// The least time of each of the two, in nanoseconds.
-fn compare(mut ours: impl FnMut(), mut theirs: impl FnMut()) -> (f64, f64) {
-    let mut least = (f64::MAX, f64::MAX);
+/// The records and frames that sealing, opening and the fragments are timed on.
+const KEY_ID: u8 = 2;
+const ADDRESS: [u8; 6] = [2, 0, 0, 0, 0, 1];
+const LAST: u64 = 0x0102_0304_0506;
+const HEADER: usize = 26;
+
+/// Messages split and joined in a run, the size of their fragments, and the length of a sealed one.
+const PICTURES: usize = 1_000;
+const SIZE: usize = MAX_MESSAGE / MAX_FRAGMENTS;
+const SEALED: usize = HEADER + SIZE + ADDED;
+
+/// The least time of each work, in nanoseconds.
+fn least<const N: usize>(mut works: [&mut dyn FnMut(); N]) -> [f64; N] {
+    let mut least = [f64::MAX; N];
     for _ in 0..RUNS {
-        let start = Instant::now();
-        ours();
-        let middle = Instant::now();
-        theirs();
-        let end = Instant::now();
-        least.0 = least.0.min((middle - start).as_nanos() as f64);
-        least.1 = least.1.min((end - middle).as_nanos() as f64);
+        for (work, least) in works.iter_mut().zip(&mut least) {
+            let start = Instant::now();
+            work();
+            *least = least.min(start.elapsed().as_nanos() as f64);
+        }
     }
     least
 }
 
-fn report(name: &str, pieces: usize, (ours, theirs): (f64, f64)) {
+/// The least time of each of the two.
+fn compare(mut ours: impl FnMut(), mut theirs: impl FnMut()) -> [f64; 2] {
+    least([&mut ours, &mut theirs])
+}
+
+fn report(name: &str, pieces: usize, [ours, theirs]: [f64; 2]) {
     let pieces = pieces as f64;
-    println!("{name:<28} {:>9.1} ns {:>9.1} ns {:>6.2}", ours / pieces, theirs / pieces, ours / theirs);
+    println!("{name:<36} {:>9.1} ns {:>9.1} ns {:>6.2}", ours / pieces, theirs / pieces, ours / theirs);
 }
 
 fn aes() {
@@ -82,16 +97,26 @@ fn ccm(length: usize) {
     report(&format!("ccm: {length} octets opened"), MESSAGES, times);
 }
 
-/// QoS data frames with a body of this length, from a record as it is before each call, the key expanded for each.
+/// A sender and a receiver as they are before each call.
+fn records() -> (Sender, Receiver) {
+    let key: [u8; 16] = std::array::from_fn(|i| i as u8);
+    let sender = Sender { key, key_id: KEY_ID, address: ADDRESS, last_number: LAST };
+    (sender, Receiver { replay_counters: [LAST; 16], ..Receiver::fresh(key, KEY_ID, ADDRESS).1 })
+}
+
+/// A QoS data frame with so many octets after its header.
+fn plain(length: usize) -> Vec<u8> {
+    let mut plain: Vec<u8> = (0..HEADER + length).map(|i| (i * 7) as u8).collect();
+    plain[..2].copy_from_slice(&[0x88, 0x01]);
+    plain[10..16].copy_from_slice(&ADDRESS);
+    plain
+}
+
+/// Frames with a body of this length, the key expanded for each.
 fn frame(length: usize) {
     const FRAMES: usize = 2_000;
-    let key: [u8; 16] = std::array::from_fn(|i| i as u8);
-    let (address, last, key_id) = ([2, 0, 0, 0, 0, 1], 0x0102_0304_0506, 2);
-    let sender = Sender { key, key_id, address, last_number: last };
-    let receiver = Receiver { replay_counters: [last; 16], ..Receiver::fresh(key, key_id, address).1 };
-    let mut plain: Vec<u8> = (0..26 + length).map(|i| (i * 7) as u8).collect();
-    plain[..2].copy_from_slice(&[0x88, 0x01]);
-    plain[10..16].copy_from_slice(&address);
+    let (sender, receiver) = records();
+    let plain = plain(length);
     let (mut ours, mut theirs) = (vec![0; plain.len() + ADDED], vec![0; plain.len() + ADDED]);
 
     let times = compare(
@@ -111,9 +136,63 @@ fn frame(length: usize) {
     report(&format!("frame: {length} octets opened"), FRAMES, times);
 }
 
+/// The greatest message as 16 fragments: cut and sealed in one call, and its plain fragments sealed one by one.
+fn splitting(message: &[u8], fragments: &[(Vec<u8>, u64)]) {
+    let (sender, _) = records();
+    let [mut ours, mut theirs, mut our_frames, mut their_frames] = [(); 4].map(|()| vec![0; MAX_FRAGMENTS * SEALED]);
+    let [split, their_split, sealed, their_sealed] = least([
+        &mut || (0..PICTURES).for_each(|_| assert_eq!(proved::split(&mut black_box(&sender).clone(), message, SIZE, &mut ours)[0], 0)),
+        &mut || (0..PICTURES).for_each(|_| assert!(black_box(&sender).clone().split(message, SIZE, &mut theirs).is_ok())),
+        &mut || {
+            for mut sender in (0..PICTURES).map(|_| black_box(&sender).clone()) {
+                let rooms = our_frames.chunks_mut(SEALED);
+                fragments.iter().zip(rooms).for_each(|((plain, _), room)| assert_eq!(proved::seal(&mut sender, plain, room)[0], 0));
+            }
+        },
+        &mut || {
+            for mut sender in (0..PICTURES).map(|_| black_box(&sender).clone()) {
+                let rooms = their_frames.chunks_mut(SEALED);
+                fragments.iter().zip(rooms).for_each(|((plain, _), room)| assert!(sender.seal(plain, room).is_ok()));
+            }
+        },
+    ]);
+    assert_eq!([&theirs, &our_frames, &their_frames], [&ours; 3]);
+    report("fragments: 2304 octets split into 16", PICTURES, [split, their_split]);
+    report("frame: 144 octets sealed, 16 of them", PICTURES, [sealed, their_sealed]);
+    println!("{:<36} {:>25} {:>6.2}", "fragments: split over sealed, proved", "", split / sealed);
+}
+
+/// The fragments, opened before, put together.
+fn joining(message: &[u8], fragments: &[(Vec<u8>, u64)]) {
+    let (mut our_joiner, mut their_joiner) = (Joiner::default(), Joiner::default());
+    let (mut ours, mut theirs) = (vec![0; MAX_MESSAGE], vec![0; MAX_MESSAGE]);
+    let calls = || (0..PICTURES).flat_map(|_| black_box(fragments));
+    let times = compare(
+        || calls().for_each(|(frame, number)| assert_eq!(proved::join(&mut our_joiner, frame, *number, &mut ours)[0], 0)),
+        || calls().for_each(|(frame, number)| assert!(their_joiner.join(frame, *number, &mut theirs).is_ok())),
+    );
+    assert_eq!([&ours, &theirs], [&message[HEADER..]; 2]);
+    report("fragments: 16 joined", PICTURES, times);
+}
+
+fn fragments() {
+    let ((mut sender, mut receiver), message) = (records(), plain(MAX_MESSAGE));
+    let mut sealed = vec![0; MAX_FRAGMENTS * SEALED];
+    assert!(sender.split(&message, SIZE, &mut sealed).is_ok());
+    let opened = sealed.chunks(SEALED).map(|fragment| {
+        let mut plain = vec![0; SEALED - ADDED];
+        let number = receiver.open(fragment, &mut plain).expect("a fragment that opens").number;
+        (plain, number)
+    });
+    let fragments: Vec<(Vec<u8>, u64)> = opened.collect();
+    splitting(&message, &fragments);
+    joining(&message, &fragments);
+}
+
 fn main() {
-    println!("{:<28} {:>12} {:>12} {:>6}", "work", "proved", "second", "ratio");
+    println!("{:<36} {:>12} {:>12} {:>6}", "work", "proved", "second", "ratio");
     aes();
     [64, 1_500, 2_296].into_iter().for_each(ccm);
     [64, 1_500, 2_296].into_iter().for_each(frame);
+    fragments();
 }

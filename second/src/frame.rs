@@ -67,11 +67,13 @@ pub enum Refusal {
     Replay = 10,
     Integrity = 11,
     Spent = 12,
+    Cut = 13,
+    Dropped = 14,
 }
 
 pub type Answer = Result<Done, Refusal>;
 
-fn require(holds: bool, otherwise: Refusal) -> Result<(), Refusal> {
+pub(crate) fn require(holds: bool, otherwise: Refusal) -> Result<(), Refusal> {
     holds.then_some(()).ok_or(otherwise)
 }
 
@@ -99,11 +101,11 @@ pub fn header_length(frame: &[u8]) -> usize {
 }
 
 /// A whole header.
-struct Header<'a>(&'a [u8]);
+pub(crate) struct Header<'a>(pub(crate) &'a [u8]);
 
 impl<'a> Header<'a> {
     /// The header and what follows it: tests 2, 3, 4 and 2 again.
-    fn split(frame: &'a [u8], protected: bool) -> Result<(Self, &'a [u8]), Refusal> {
+    pub(crate) fn split(frame: &'a [u8], protected: bool) -> Result<(Self, &'a [u8]), Refusal> {
         require(frame.len() >= MIN_HEADER, Refusal::Short)?;
         // Version 0, type 2 and not "no data".
         require(frame[0] & 0x4f == 0x08, Refusal::Kind)?;
@@ -113,12 +115,12 @@ impl<'a> Header<'a> {
     }
 
     /// A2, the address of the frame's sender.
-    fn transmitter(&self) -> &[u8] {
+    pub(crate) fn transmitter(&self) -> &[u8] {
         &self.0[10..16]
     }
 
     /// The low four bits of QoS Control, and 0 without it.
-    fn priority(&self) -> u8 {
+    pub(crate) fn priority(&self) -> u8 {
         if has_qos(self.0) {
             self.0[qos_place(self.0)] & 0x0f
         } else {
@@ -171,7 +173,7 @@ impl Sender {
         (Ok(Done::default()), Sender { key, key_id, address, last_number: 0 })
     }
 
-    fn is_sound(&self) -> bool {
+    pub(crate) fn is_sound(&self) -> bool {
         self.key_id <= 3 && self.last_number <= MAX_NUMBER
     }
 

@@ -5,5 +5,6 @@
 pub mod aes;
 pub mod book;
 pub mod ccm;
+pub mod fragment;
 pub mod frame;
 pub mod sample;

@@ -1,8 +1,10 @@
-//! The most stack that one seal and one open of a frame take, as it shows: each runs on a stack filled with a pattern, which is then looked
-//! through for the lowest octet that changed. Every header shape and body length is tried, with a right and a wrong code.
+//! The most stack that one seal, open, split and join take, as it shows: each runs on a stack filled with a pattern, which is then looked
+//! through for the lowest octet that changed. Every header shape and body length is tried; opening with a right and a wrong code, splitting
+//! into as many fragments as may be, and joining of a first fragment, a next one, the last one and one that is dropped.
 
-use proved::exported::{bench_ccmp_open, bench_ccmp_seal};
+use proved::exported::{bench_ccmp_open, bench_ccmp_seal, bench_join, bench_split};
 use proved::Told;
+use second::fragment::{Joiner, MAX_FRAGMENTS, MAX_MESSAGE, MAX_SIZE, MIN_SIZE, MORE_FRAG};
 use second::frame::{header_length, Receiver, Sender, ADDED, MAX_BODY};
 use second::sample::CONTROLS;
 use std::arch::asm;
@@ -54,25 +56,84 @@ fn opening(stack: &mut Stack, filling: u8, mut r: Receiver, frame: &mut [u8], ou
     octets_used(stack, filling, bench_ccmp_open as *const () as usize, &[&record[..], &lent].concat())
 }
 
-fn main() {
-    let (key, address) = ([7; 16], [2, 0, 0, 0, 0, 1]);
-    let (_, sender) = Sender::fresh(key, 0, address);
-    let (_, receiver) = Receiver::fresh(key, 0, address);
-    let mut stack = Box::new(Stack([0; STACK]));
+fn splitting(stack: &mut Stack, filling: u8, mut s: Sender, size: usize, frame: &mut [u8], out: &mut [u8]) -> usize {
+    let mut told = [0; 4];
+    let record = [address_of(&mut s.key), address_of(&mut s.key_id), address_of(&mut s.address), address_of(&mut s.last_number)];
+    let lent = [address_of::<Told>(&mut told), size, address_of(frame), frame.len(), address_of(out), out.len()];
+    let octets = octets_used(stack, filling, bench_split as *const () as usize, &[&record[..], &lent].concat());
+    assert_eq!(told[0], 0);
+    octets
+}
+
+fn joining(stack: &mut Stack, filling: u8, mut j: Joiner, frame: &mut [u8], out: &mut [u8], answer: u64) -> usize {
+    let (mut told, number) = ([0; 4], j.number as usize + 1);
+    let held = [address_of(&mut j.held), address_of(&mut j.length), address_of(&mut j.address), address_of(&mut j.priority)];
+    let last = [address_of(&mut j.sequence), address_of(&mut j.fragment), address_of(&mut j.number)];
+    let lent = [address_of::<Told>(&mut told), address_of(frame), frame.len(), number, address_of(out), out.len()];
+    let octets = octets_used(stack, filling, bench_join as *const () as usize, &[&held[..], &last, &lent].concat());
+    assert_eq!(told[0], answer);
+    octets
+}
+
+const ADDRESS: [u8; 6] = [2, 0, 0, 0, 0, 1];
+
+fn plain(control: [u8; 2], length: usize) -> Vec<u8> {
+    let mut frame = vec![0x11; header_length(&control) + length];
+    frame[..2].copy_from_slice(&control);
+    frame[10..16].copy_from_slice(&ADDRESS);
+    frame
+}
+
+/// Of sealing and opening.
+fn most_for_frames(stack: &mut Stack, filling: u8, control: [u8; 2]) -> [usize; 2] {
+    let (_, sender) = Sender::fresh([7; 16], 0, ADDRESS);
+    let (_, receiver) = Receiver::fresh([7; 16], 0, ADDRESS);
     let (mut sealed, mut opened) = (0, 0);
-    // Two fillings: what a call writes in the lowest octet may be one of them.
-    for (filling, control) in [0xa5, 0x5a].into_iter().flat_map(|filling| CONTROLS.map(|control| (filling, control))) {
-        for length in 1..=MAX_BODY {
-            let mut plain = vec![0x11; header_length(&control) + length];
-            plain[..2].copy_from_slice(&control);
-            plain[10..16].copy_from_slice(&address);
-            let (mut text, mut out) = (vec![0; plain.len() + ADDED], vec![0; plain.len()]);
-            sealed = sealed.max(sealing(&mut stack, filling, sender.clone(), &mut plain, &mut text));
-            opened = opened.max(opening(&mut stack, filling, receiver.clone(), &mut text, &mut out));
-            assert_eq!(plain, out);
-            text[header_length(&control) + 8] ^= 1;
-            opened = opened.max(opening(&mut stack, filling, receiver.clone(), &mut text, &mut out));
+    for length in 1..=MAX_BODY {
+        let mut plain = plain(control, length);
+        let (mut text, mut out) = (vec![0; plain.len() + ADDED], vec![0; plain.len()]);
+        sealed = sealed.max(sealing(stack, filling, sender.clone(), &mut plain, &mut text));
+        opened = opened.max(opening(stack, filling, receiver.clone(), &mut text, &mut out));
+        assert_eq!(plain, out);
+        text[header_length(&control) + 8] ^= 1;
+        opened = opened.max(opening(stack, filling, receiver.clone(), &mut text, &mut out));
+    }
+    [sealed, opened]
+}
+
+/// Of splitting and joining.
+fn most_for_fragments(stack: &mut Stack, filling: u8, control: [u8; 2]) -> [usize; 2] {
+    let (_, sender) = Sender::fresh([7; 16], 0, ADDRESS);
+    let (mut split, mut joined) = (0, 0);
+    let mut out = vec![0; MAX_MESSAGE + MAX_FRAGMENTS * (header_length(&control) + ADDED)];
+    for length in 1..=MAX_MESSAGE {
+        let size = length.div_ceil(MAX_FRAGMENTS).next_multiple_of(2).max(MIN_SIZE);
+        split = split.max(splitting(stack, filling, sender.clone(), size, &mut plain(control, length), &mut out));
+    }
+    for length in 1..=MAX_SIZE {
+        let mut frame = plain([control[0], control[1] | MORE_FRAG], length);
+        let mut joiner = Joiner::default();
+        frame[22] = 0x10;
+        assert!(joiner.join(&frame, 1, &mut []).is_ok());
+        joiner.length = MAX_MESSAGE - length;
+        for (fragment, more, answer) in [(0, MORE_FRAG, 0), (1, MORE_FRAG, 0), (1, 0, 0), (2, 0, 14)] {
+            (frame[1], frame[22]) = (control[1] | more, 0x10 | fragment);
+            joined = joined.max(joining(stack, filling, joiner.clone(), &mut frame, &mut out, answer));
         }
     }
-    println!("bench_ccmp_seal: {sealed} octets\nbench_ccmp_open: {opened} octets");
+    [split, joined]
+}
+
+fn main() {
+    let mut stack = Box::new(Stack([0; STACK]));
+    let mut most = [0; 4];
+    // Two fillings: what a call writes in the lowest octet may be one of them.
+    for (filling, control) in [0xa5, 0x5a].into_iter().flat_map(|filling| CONTROLS.map(|control| (filling, control))) {
+        let [sealed, opened] = most_for_frames(&mut stack, filling, control);
+        let [split, joined] = most_for_fragments(&mut stack, filling, control);
+        most = std::array::from_fn(|which| most[which].max([sealed, opened, split, joined][which]));
+    }
+    for (name, octets) in ["bench_ccmp_seal", "bench_ccmp_open", "bench_split", "bench_join"].into_iter().zip(most) {
+        println!("{name}: {octets} octets");
+    }
 }

@@ -1,6 +1,7 @@
 //! A call on either program, and what it leaves.
 
 use proved::Told;
+use second::fragment::Joiner;
 use second::frame::{Answer, Receiver, Sender};
 use std::fmt;
 
@@ -12,6 +13,16 @@ pub enum Call {
     FreshReceiver { key: [u8; 16], key_id: u8, peer: [u8; 6] },
     Seal { sender: Sender, frame: Vec<u8>, room: Vec<u8> },
     Open { receiver: Receiver, frame: Vec<u8>, room: Vec<u8> },
+    Split { sender: Sender, frame: Vec<u8>, size: usize, room: Vec<u8> },
+    Join { joiner: Box<Joiner>, frame: Vec<u8>, number: u64, room: Vec<u8> },
+}
+
+/// A list of calls.
+pub trait Calls {
+    fn next_call(&mut self) -> Call;
+
+    /// Takes what the call left.
+    fn took(&mut self, call: &Call, left: &Left);
 }
 
 /// The answer, the record handed back and the room as it is afterwards.
@@ -26,6 +37,7 @@ pub struct Left {
 pub enum Record {
     Sender(Sender),
     Receiver(Receiver),
+    Joiner(Box<Joiner>),
 }
 
 impl Call {
@@ -35,6 +47,8 @@ impl Call {
             Call::FreshReceiver { .. } => "fresh receiver",
             Call::Seal { .. } => "seal",
             Call::Open { .. } => "open",
+            Call::Split { .. } => "split",
+            Call::Join { .. } => "join",
         }
     }
 
@@ -62,6 +76,16 @@ impl Call {
                 let told = proved::open(&mut receiver, frame, &mut room);
                 Left { told, record: Record::Receiver(receiver), room }
             }
+            Call::Split { sender, frame, size, room } => {
+                let (mut sender, mut room) = (sender.clone(), room.clone());
+                let told = proved::split(&mut sender, frame, *size, &mut room);
+                Left { told, record: Record::Sender(sender), room }
+            }
+            Call::Join { joiner, frame, number, room } => {
+                let (mut joiner, mut room) = (joiner.clone(), room.clone());
+                let told = proved::join(&mut joiner, frame, *number, &mut room);
+                Left { told, record: Record::Joiner(joiner), room }
+            }
         }
     }
 
@@ -86,6 +110,16 @@ impl Call {
                 let answer = receiver.open(frame, &mut room);
                 Left { told: told(answer), record: Record::Receiver(receiver), room }
             }
+            Call::Split { sender, frame, size, room } => {
+                let (mut sender, mut room) = (sender.clone(), room.clone());
+                let answer = sender.split(frame, *size, &mut room);
+                Left { told: told(answer), record: Record::Sender(sender), room }
+            }
+            Call::Join { joiner, frame, number, room } => {
+                let (mut joiner, mut room) = (joiner.clone(), room.clone());
+                let answer = joiner.join(frame, *number, &mut room);
+                Left { told: told(answer), record: Record::Joiner(joiner), room }
+            }
         }
     }
 }
@@ -109,6 +143,10 @@ impl fmt::Display for Record {
                 write!(f, "key {} key ID {} peer {} replay {:x?} ", hex(&r.key), r.key_id, hex(&r.peer), r.replay_counters)?;
                 write!(f, "counts {:x?}", r.counts())
             }
+            Record::Joiner(j) => {
+                write!(f, "address {} priority {} sequence {:x} fragment {} ", hex(&j.address), j.priority, j.sequence, j.fragment)?;
+                write!(f, "last {:x} length {} held {}", j.number, j.length, hex(&j.held))
+            }
         }
     }
 }
@@ -121,6 +159,14 @@ impl fmt::Display for Call {
             Call::FreshReceiver { key, key_id, peer } => return write!(f, "key {} key ID {key_id} peer {}", hex(key), hex(peer)),
             Call::Seal { sender, frame, room } => (Record::Sender(sender.clone()), frame, room),
             Call::Open { receiver, frame, room } => (Record::Receiver(receiver.clone()), frame, room),
+            Call::Split { sender, frame, size, room } => {
+                write!(f, "size {size} ")?;
+                (Record::Sender(sender.clone()), frame, room)
+            }
+            Call::Join { joiner, frame, number, room } => {
+                write!(f, "number {number:x} ")?;
+                (Record::Joiner(joiner.clone()), frame, room)
+            }
         };
         write!(f, "{record}\n  frame {}\n  room {}", hex(frame), hex(room))
     }

@@ -1,8 +1,9 @@
-//! Lists of calls from a seed. A list makes a sender and a receiver with one key and address; the frames that it seals get lost, come again,
-//! late or damaged. Most calls take the record that the call before handed back. The others take one that differs from it in some field,
-//! and what they hand back is dropped.
+//! Lists of sealing and opening calls from a seed. A list makes a sender and a receiver with one key and address; the frames that it seals
+//! get lost, come again, late or damaged. Most calls take the record that the call before handed back. The others take one that differs from
+//! it in some field, and what they hand back is dropped.
 
-use crate::call::{Call, Left, Record};
+use crate::any;
+use crate::call::{Call, Calls, Left, Record};
 use second::frame::{has_ht, header_length, number_in, Receiver, Sender, ADDED, MAX_BODY, MAX_NUMBER, ORDER};
 use second::sample::{Random, SHORTEST_SEALED};
 use std::collections::VecDeque;
@@ -21,16 +22,8 @@ pub struct List {
     keeps: bool,
 }
 
-impl List {
-    pub fn new(seed: u64) -> Self {
-        let mut random = Random(seed);
-        let (key, key_id, address) = (random.array(), (seed % 4) as u8, random.array());
-        let sender = Sender { key, key_id, address, ..Sender::default() };
-        let receiver = Receiver { key, key_id, peer: address, ..Receiver::default() };
-        List { seed, random, made: 0, sender, receiver, waiting: VecDeque::new(), past: Vec::new(), keeps: true }
-    }
-
-    pub fn next_call(&mut self) -> Call {
+impl Calls for List {
+    fn next_call(&mut self) -> Call {
         self.made += 1;
         match self.made {
             1 => return Call::FreshSender { key: self.sender.key, key_id: self.sender.key_id, address: self.sender.address },
@@ -43,6 +36,32 @@ impl List {
             1..7 => self.seal(),
             _ => self.open(),
         }
+    }
+
+    fn took(&mut self, _: &Call, left: &Left) {
+        if !self.keeps {
+            return;
+        }
+        match left.record.clone() {
+            Record::Joiner(_) => {}
+            Record::Receiver(receiver) => self.receiver = receiver,
+            Record::Sender(sender) => {
+                self.sender = sender;
+                if left.told[3] > 0 {
+                    self.waiting.push_back(left.room[..left.told[3] as usize].to_vec());
+                }
+            }
+        }
+    }
+}
+
+impl List {
+    pub fn new(seed: u64) -> Self {
+        let mut random = Random(seed);
+        let (key, key_id, address) = (random.array(), (seed % 4) as u8, random.array());
+        let sender = Sender { key, key_id, address, ..Sender::default() };
+        let receiver = Receiver { key, key_id, peer: address, ..Receiver::default() };
+        List { seed, random, made: 0, sender, receiver, waiting: VecDeque::new(), past: Vec::new(), keeps: true }
     }
 
     /// One list in three goes on from the fresh records. In the others numbers, or counts, soon come to their end.
@@ -65,22 +84,6 @@ impl List {
         0x20 | self.receiver.key_id << 6
     }
 
-    /// Takes what the call left.
-    pub fn took(&mut self, left: &Left) {
-        if !self.keeps {
-            return;
-        }
-        match left.record.clone() {
-            Record::Receiver(receiver) => self.receiver = receiver,
-            Record::Sender(sender) => {
-                self.sender = sender;
-                if left.told[3] > 0 {
-                    self.waiting.push_back(left.room[..left.told[3] as usize].to_vec());
-                }
-            }
-        }
-    }
-
     /// A fresh record, half of them with a key ID over 3.
     fn fresh(&mut self) -> Call {
         self.keeps = false;
@@ -95,17 +98,17 @@ impl List {
 
     fn seal(&mut self) -> Call {
         let mut frame = self.random.plain(self.sender.address);
-        self.resize(&mut frame, &[0, 1, MAX_BODY, MAX_BODY + 1]);
+        any::resize(&mut self.random, &mut frame, &[0, 1, MAX_BODY, MAX_BODY + 1]);
         while frame.len() >= 24 && self.random.one_in(4) {
             self.random.spoil(&mut frame);
         }
-        self.any_octets(&mut frame);
+        any::octets(&mut self.random, &mut frame);
         let mut sender = self.sender.clone();
         self.keeps = !self.random.one_in(3);
         if !self.keeps {
-            sender = self.another_sender();
+            sender = any::sender(&mut self.random, sender);
         }
-        let room = self.room(frame.len() + ADDED);
+        let room = any::room(&mut self.random, frame.len() + ADDED);
         Call::Seal { sender, frame, room }
     }
 
@@ -118,13 +121,13 @@ impl List {
             2 => self.turn_b15(&mut frame),
             _ => {}
         }
-        self.any_octets(&mut frame);
+        any::octets(&mut self.random, &mut frame);
         let mut receiver = self.receiver.clone();
         self.keeps = !self.random.one_in(3);
         if !self.keeps {
             receiver = self.another_receiver(&frame);
         }
-        let room = self.room(frame.len().saturating_sub(ADDED));
+        let room = any::room(&mut self.random, frame.len().saturating_sub(ADDED));
         Call::Open { receiver, frame, room }
     }
 
@@ -148,7 +151,7 @@ impl List {
         if self.random.one_in(2) {
             self.waiting.push_front(frame.clone());
         }
-        self.resize(frame, &[0, 1, 15, 16, 17, 18, 16 + MAX_BODY, 17 + MAX_BODY]);
+        any::resize(&mut self.random, frame, &[0, 1, 15, 16, 17, 18, 16 + MAX_BODY, 17 + MAX_BODY]);
         while frame.len() >= SHORTEST_SEALED && !self.random.one_in(3) {
             self.random.damage(frame);
         }
@@ -165,69 +168,14 @@ impl List {
         frame[1] ^= ORDER;
     }
 
-    /// One frame in eight gets one of these lengths after its header.
-    fn resize(&mut self, frame: &mut Vec<u8>, lengths: &[usize]) {
-        if self.random.one_in(8) {
-            let filling = self.random.draw() as u8;
-            frame.resize(header_length(frame) + self.random.pick(lengths), filling);
-        }
-    }
-
-    /// One frame in 32 becomes any octets.
-    fn any_octets(&mut self, frame: &mut Vec<u8>) {
-        if self.random.one_in(32) {
-            *frame = self.random.octets_below(2_400);
-        }
-    }
-
-    /// Room that is enough for so many octets, or not, with any octets in it.
-    fn room(&mut self, needed: usize) -> Vec<u8> {
-        let length = match self.random.below(16) {
-            0 => needed.saturating_sub(1),
-            1 => self.random.below(needed + 1),
-            2 => 0,
-            3 => needed + 1,
-            4..7 => needed + self.random.below(40),
-            7 => needed + 3_000,
-            _ => needed,
-        };
-        self.random.octets(length)
-    }
-
-    /// A packet number near the limits of its range, on both sides of them, or any other.
-    fn any_number(&mut self) -> u64 {
-        match self.random.below(4) {
-            0 => self.random.draw() % 3,
-            1 => MAX_NUMBER - 2 + self.random.draw() % 5,
-            2 => self.random.draw() >> self.random.below(64),
-            _ => self.random.draw() >> 16,
-        }
-    }
-
-    fn any_key_id(&mut self) -> u8 {
-        self.random.draw() as u8 & self.random.pick(&[0x03, 0x03, 0x07, 0xff])
-    }
-
-    /// The list's sender with one field changed.
-    fn another_sender(&mut self) -> Sender {
-        let mut sender = self.sender.clone();
-        match self.random.below(8) {
-            0 => sender.key[self.random.below(16)] ^= 1 << self.random.below(8),
-            1 => sender.key_id = self.any_key_id(),
-            2 => sender.address[self.random.below(6)] ^= 1 << self.random.below(8),
-            _ => sender.last_number = self.any_number(),
-        }
-        sender
-    }
-
     /// The list's receiver with one field changed; a counter may be near the frame's number.
     fn another_receiver(&mut self, frame: &[u8]) -> Receiver {
         let mut receiver = self.receiver.clone();
         match self.random.below(12) {
             0 => receiver.key[self.random.below(16)] ^= 1 << self.random.below(8),
-            1 => receiver.key_id = self.any_key_id(),
+            1 => receiver.key_id = any::key_id(&mut self.random),
             2 => receiver.peer[self.random.below(6)] ^= 1 << self.random.below(8),
-            3 | 4 => receiver.replay_counters[self.random.below(16)] = self.any_number(),
+            3 | 4 => receiver.replay_counters[self.random.below(16)] = any::number(&mut self.random),
             5 => receiver.replay_counters = std::array::from_fn(|_| self.random.draw() >> 16),
             6 | 7 => counts_near_their_end(&mut self.random, &mut receiver),
             _ => {
