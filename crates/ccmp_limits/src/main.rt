@@ -113,6 +113,27 @@ fn seals(s: Sender, frame: [u8; SIZE], n: usize, room: usize, expected: u64) -> 
     next
 }
 
+// Seals the first n octets of the frame in two parts, cut at h, and prints the rest of the line.
+fn seals_parts(s: Sender, frame: [u8; SIZE], h: usize, n: usize, expected: u64)
+    requires { ⌜ (h ≤ n) × (n ≤ size) ⌝ }
+{
+    let mut out = [0xaau8; SIZE];
+    let lent: &[u8] = &frame;
+    let sealed = ccmp::seal_parts(s, &lent[0..h], &lent[h..n], &mut out);
+    let answer = sealed.answer;
+    let next = sealed.sender;
+    print_answer(answer);
+    show::text(b", last ");
+    show::number(next.last);
+    print_rest(out, written(answer));
+    let mut whole = [0xaau8; SIZE];
+    ccmp::seal(s, &lent[0..n], &mut whole);
+    if octets::equal(&out, &whole) {
+        show::text(b", as the whole");
+    }
+    print_expected(expected);
+}
+
 // Opens the first n octets of the text with this room, and prints the rest of the line.
 fn opens(
     r: Receiver,
@@ -312,6 +333,28 @@ fn orders() {
     let other = plain(0x08, 0x80);
     show::text(b"open with Order cleared, no QoS Control: ");
     opens(r, with(text_of(other, 25, 0), 1, 0x40), 41, SIZE, other, 11);
+}
+
+// A frame of 32 octets of header and 17 of body, lent in two parts that are cut there and elsewhere.
+fn parts() {
+    let frame = plain(0x88, 0x03);
+    let s = sender(0);
+    show::text(b"seal 49 octets, cut after the header of 32: ");
+    seals_parts(s, frame, 32, 49, 0);
+    show::text(b"seal 49 octets, cut at 23: ");
+    seals_parts(s, frame, 23, 49, 2);
+    show::text(b"seal 49 octets, cut at 31: ");
+    seals_parts(s, frame, 31, 49, 2);
+    show::text(b"seal 49 octets, cut at 33: ");
+    seals_parts(s, frame, 33, 49, 2);
+    show::text(b"seal no data, cut at 33: ");
+    seals_parts(s, with(frame, 0, 0xc8), 33, 49, 3);
+    show::text(b"seal a header of 32 alone: ");
+    seals_parts(s, frame, 32, 32, 5);
+    show::text(b"seal another's frame in parts: ");
+    seals_parts(s, with(frame, 15, 2), 32, 49, 7);
+    show::text(b"not sound, cut at 23: ");
+    seals_parts(sender(MOST_NUMBER + 1), frame, 23, 49, 1);
 }
 
 // The last packet number of all.
@@ -636,6 +679,7 @@ fn main() {
     rooms();
     ht_control();
     orders();
+    parts();
     last_number();
     replays();
     seal_answers();
