@@ -55,7 +55,7 @@ fn unfit(size: usize, n: usize) -> bool
     MOST_FRAGMENTS * size < n
 }
 
-// How many fragments the message of a frame makes, whose header ends at h.
+// How many fragments a frame makes whose header ends at h.
 fn count(size: usize, frame: &[u8], h: usize) -> usize
     requires { ⌜ Cut size (now frame) h ⌝ }
     ensures { λ r. ⌜ r ≡ length (fragments size (now (frame .entry))) ⌝ }
@@ -63,7 +63,7 @@ fn count(size: usize, frame: &[u8], h: usize) -> usize
     (frame.len() - h + size - 1) / size
 }
 
-// The octets that they have once they are sealed.
+// The octets that these have once they are sealed.
 fn sealed_length(size: usize, frame: &[u8], h: usize) -> usize
     requires { ⌜ Cut size (now frame) h ⌝ }
     ensures { λ r. ⌜ r ≡ sealedLength (fragments size (now (frame .entry))) ⌝ }
@@ -106,7 +106,7 @@ fn split_tests(s: Sender, size: usize, frame: &[u8], room: usize) -> Verdict
     }
 }
 
-// Where the piece that begins at `at` ends.
+// Where the piece that begins at `at` ends, in a frame of n octets.
 fn end_of(at: usize, size: usize, n: usize) -> usize
     requires { ⌜ at ≤ n ⌝ }
     ensures { λ r. ⌜ r ≡ min (at + size) n ⌝ }
@@ -117,7 +117,7 @@ fn end_of(at: usize, size: usize, n: usize) -> usize
     at + size
 }
 
-// Whether a piece that ends at `end` is not the last.
+// MoreFrag of a piece that ends at `end`.
 fn more_after(end: usize, n: usize) -> u8
     ensures { λ r. ⌜ r ≡ bit (ltb end n) ⌝ }
 {

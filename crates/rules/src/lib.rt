@@ -73,6 +73,6 @@ pub struct Header {
 pub enum Answer {
     // The packet number, the priority and the octets written.
     Done(u64, u8, usize),
-    // Document 01's number.
+    // The number that documents 01 and 02 give the refusal.
     Refused(u8),
 }
