@@ -1,5 +1,6 @@
 -- Demand 1: any record, frame and room get one of the numbered answers; a refusal keeps the output, the keys and the numbers, and of the
--- counts only the named one moves; a joiner moves by no refusal but 14. That every call ends and stays inside its arguments is part of the proof of each function.
+-- counts only the named one moves; a joiner moves by no refusal but 14. That every call ends and stays inside its arguments is part of the
+-- proof of each function.
 use mathlib.Core.Path.{_≡_}
 use mathlib.Core.Bool.{true, cond}
 use mathlib.Core.List.{List, [], _∷_}
