@@ -19,7 +19,7 @@ bytesOf s = bytes (s .a) ++ (bytes (s .b) ++ (bytes (s .c) ++ bytes (s .d)))
 unfoldable pub products : ℕ → List ℕ
 products s = 2 • s ∷ s ∷ s ∷ 3 • s ∷ []
 
--- the table: at x the products of the S-box's value of x
-pub record Products (t : List ℕ) : Type 0 where
+-- the table: at x the S-box's value of x
+pub record SBox (t : List ℕ) : Type 0 where
   pub size : length t ≡ 256
-  pub entry : (x : ℕ) → x < 256 → bytes (getD t x 0) ≡ products (sbox x)
+  pub entry : (x : ℕ) → x < 256 → getD t x 0 ≡ sbox x

@@ -8,7 +8,7 @@ ghost use mathlib.Core.Path.{_≡_};
 ghost use mathlib.Core.List.{[], _∷_};
 ghost use Prim.Native.Nat.{_/_, _%_, _≤_};
 ghost use Rattle.aes.specs.Cipher.{columns, wordAt, subBytes, shiftRows, mixColumns, addRoundKey, cipher};
-ghost use Rattle.aes.specs.Word.{bytes, bytesOf, Products};
+ghost use Rattle.aes.specs.Word.{bytes, bytesOf, SBox};
 
 // The four columns.
 pub(crate) struct State {
@@ -95,8 +95,8 @@ fn shift_rows(s: State) -> State
     }
 }
 
-fn sub_bytes(t: &[u32; 256], s: State) -> State
-    requires { ⌜ Products (now t) ⌝ }
+fn sub_bytes(t: &[u8; 256], s: State) -> State
+    requires { ⌜ SBox (now t) ⌝ }
     ensures { λ r. ⌜ bytesOf r ≡ subBytes (bytesOf s) ⌝ }
 {
     State {
@@ -108,8 +108,8 @@ fn sub_bytes(t: &[u32; 256], s: State) -> State
 }
 
 // SubBytes and MixColumns.
-fn mix_columns(t: &[u32; 256], s: State) -> State
-    requires { ⌜ Products (now t) ⌝ }
+fn mix_columns(t: &[u8; 256], s: State) -> State
+    requires { ⌜ SBox (now t) ⌝ }
     ensures { λ r. ⌜ bytesOf r ≡ mixColumns (subBytes (bytesOf s)) ⌝ }
 {
     State {

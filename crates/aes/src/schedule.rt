@@ -7,14 +7,14 @@ ghost use mathlib.Core.Path.{_≡_};
 ghost use Prim.Native.Nat.{_+_, _-_, _≤_, _<_};
 ghost use Rattle.aes.specs.Cipher.{wordAt};
 ghost use Rattle.aes.specs.KeyExpansion.{xorWord, temp, keyExpansion};
-ghost use Rattle.aes.specs.Word.{bytes, Products};
+ghost use Rattle.aes.specs.Word.{bytes, SBox};
 
 // The powers of x in Rcon[1] to Rcon[10].
 const RCON: [u32; 10] = [0x01, 0x02, 0x04, 0x08, 0x10, 0x20, 0x40, 0x80, 0x1b, 0x36];
 
 // What word i adds to word i - 4, made of word i - 1.
-fn temp(t: &[u32; 256], i: usize, last: u32) -> u32
-    requires { ⌜ Products (now t) × (4 ≤ i) × (i < 44) ⌝ }
+fn temp(t: &[u8; 256], i: usize, last: u32) -> u32
+    requires { ⌜ SBox (now t) × (4 ≤ i) × (i < 44) ⌝ }
     ensures { λ r. ⌜ bytes r ≡ temp 4 i (bytes last) ⌝ }
 {
     if i % 4 == 0 {
@@ -25,8 +25,8 @@ fn temp(t: &[u32; 256], i: usize, last: u32) -> u32
 }
 
 // Word i, from the words before it.
-fn next_word(t: &[u32; 256], w: &[u8; 176], i: usize) -> u32
-    requires { ⌜ Products (now t) × (4 ≤ i) × (i < 44) ⌝ }
+fn next_word(t: &[u8; 256], w: &[u8; 176], i: usize) -> u32
+    requires { ⌜ SBox (now t) × (4 ≤ i) × (i < 44) ⌝ }
     ensures { λ r. ⌜ bytes r ≡ xorWord (wordAt (now (w .entry)) (i - 4)) (temp 4 i (wordAt (now (w .entry)) (i - 1))) ⌝ }
 {
     word_at(w, i - 4) ^ temp(t, i, word_at(w, i - 1))

@@ -1,10 +1,16 @@
--- The table's rule at x.
+-- The S-box's value, doubled once, makes all four products.
+use mathlib.Core.Path.{ap, _∙_}
 use borrow.Author.Needs.{needs}
+use Rattle.aes.specs.Word.{products}
+use Rattle.aes.proofs.Doubling.{multiples}
 use Rattle.aes.proofs.column.multiplied.Statement.{statement}
 use Rattle.aes.proofs.column.multiplied.Tie as tie
 
 returns : tie.Need-returns
-returns c = c .before .pre .entry (c .before .args .x) (c .before .fits .x .fits)
+returns c =
+    let c₂ = c .before in
+    let c₁ = c₂ .before in
+    c .pack .ensures ∙ multiples _ _ (search needs) (c₂ .doubled .ensures) ∙ ap products (c₁ .substituted .ensures)
 
 pub multiplied-spec : {M : Type 1} → statement M
-multiplied-spec = tie.close (tie.spec (λ c. search needs) (λ c. search needs) returns)
+multiplied-spec = tie.close (tie.spec (λ c κs. search needs) (λ c κs. search needs) (λ c κs. search needs) returns)
