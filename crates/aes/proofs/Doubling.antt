@@ -17,11 +17,11 @@ by-2 : (s : ℕ) → s < 256 → xtime s ≡ 2 • s
 unfolding _⊕_ xtime sumOfTerms _•_
 by-2 = on-octets xtime (λ s. 2 • s) tt
 
-by-3 : (s : ℕ) → s < 256 → bitXor (xtime s) s ≡ 3 • s
+by-3 : (s : ℕ) → s < 256 → xtime s ⊕ s ≡ 3 • s
 unfolding _⊕_ xtime sumOfTerms _•_
-by-3 = on-octets (λ s. bitXor (xtime s) s) (λ s. 3 • s) tt
+by-3 = on-octets (λ s. xtime s ⊕ s) (λ s. 3 • s) tt
 
 -- a word as `multiplied` makes it
 pub multiples : (s d : ℕ) → s < 256 → d ≡ xtime s → d ∷ s ∷ s ∷ bitXor d s ∷ [] ≡ products s
-unfolding products
-multiples s d h e = λ i. (e ∙ by-2 s h) i ∷ s ∷ s ∷ (ap (λ (d : ℕ). bitXor d s) e ∙ by-3 s h) i ∷ []
+unfolding _⊕_ products
+multiples s d h e = λ i. (e ∙ by-2 s h) i ∷ s ∷ s ∷ (ap (λ (d : ℕ). d ⊕ s) e ∙ by-3 s h) i ∷ []
