@@ -19,7 +19,7 @@ bytesOf s = bytes (s .a) ++ (bytes (s .b) ++ (bytes (s .c) ++ bytes (s .d)))
 unfoldable pub products : ℕ → List ℕ
 products s = 2 • s ∷ s ∷ s ∷ 3 • s ∷ []
 
--- the table: at x the S-box's value of x
+-- the table, figure 7 of 5.1.1: at x the S-box's value of x
 pub record SBox (t : List ℕ) : Type 0 where
   pub size : length t ≡ 256
   pub entry : (x : ℕ) → x < 256 → getD t x 0 ≡ sbox x

@@ -1,5 +1,5 @@
 -- The S-box's value, doubled once, makes all four products.
-use mathlib.Core.Path.{ap, _∙_}
+use mathlib.Core.Path.{refl, ap, _∙_}
 use borrow.Author.Needs.{needs}
 use Rattle.aes.specs.Word.{products}
 use Rattle.aes.proofs.Doubling.{multiples}
@@ -10,7 +10,7 @@ returns : tie.Need-returns
 returns c =
     let c₂ = c .before in
     let c₁ = c₂ .before in
-    c .pack .ensures ∙ multiples _ _ (search needs) (c₂ .doubled .ensures) ∙ ap products (c₁ .substituted .ensures)
+    multiples _ _ _ _ (c .pack .ensures) (search needs) (c₂ .doubled .ensures) refl ∙ ap products (c₁ .substituted .ensures)
 
 pub multiplied-spec : {M : Type 1} → statement M
 multiplied-spec = tie.close (tie.spec (λ c κs. search needs) (λ c κs. search needs) (λ c κs. search needs) returns)
