@@ -9,8 +9,12 @@ pub mod Sealing
 pub mod Opening
 pub mod Splitting
 pub mod Joining
+pub mod Table
+pub mod Adding
+pub mod Serving
 pub mod Calls
 pub mod Sending
+pub mod TableCalls
 pub mod Demand1
 pub mod Demand2
 pub mod Demand3

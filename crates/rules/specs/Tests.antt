@@ -65,3 +65,13 @@ spentTest last = (eqb last mostNumber ⇒ 12) ∷ []
 
 abbrev pub leftTest : ℕ → ℕ → List Test
 leftTest last count = (ltb (mostNumber - last) count ⇒ 12) ∷ []
+
+-- of a table: whether an entry was found, whether none can be taken, and whether a key is in use
+abbrev pub entryTest : Bool → List Test
+entryTest found = (not found ⇒ 15) ∷ []
+
+abbrev pub fullTest : Bool → List Test
+fullTest full = (full ⇒ 16) ∷ []
+
+abbrev pub keyTest : Bool → List Test
+keyTest known = (known ⇒ 17) ∷ []

@@ -8,6 +8,9 @@ pub const ADDRESS_OCTETS: usize = 6;
 
 pub const PRIORITIES: usize = 16;
 
+// How many entries a table has.
+pub const ENTRIES: usize = 16;
+
 // The octets of a message at most.
 pub const MOST_MESSAGE: usize = 2304;
 
@@ -36,6 +39,39 @@ pub struct Counts {
     pub replays: u32,
     pub decrypt_errors: u32,
     pub opened: u32,
+}
+
+// What each call on a table takes and hands back.
+pub struct Table {
+    pub entries: [Entry; ENTRIES],
+    // How many opening calls were refused for their format before an entry was looked for, modulo 2^32.
+    pub format_errors: u32,
+}
+
+// A sender and a receiver in one, with one key and one key ID. What it holds while it is not in use plays no part.
+pub struct Entry {
+    pub used: bool,
+    pub may_send: bool,
+    pub may_receive: bool,
+    // The sender's address and its last packet number.
+    pub own: [u8; ADDRESS_OCTETS],
+    pub last: u64,
+    pub receiver: Receiver,
+}
+
+// By what an entry is found.
+pub struct Triple {
+    pub own: [u8; ADDRESS_OCTETS],
+    pub peer: [u8; ADDRESS_OCTETS],
+    pub key_id: u8,
+}
+
+// What is added to a table.
+pub struct Pairing {
+    pub triple: Triple,
+    pub key: [u8; KEY_OCTETS],
+    pub may_send: bool,
+    pub may_receive: bool,
 }
 
 // What a joining call takes and hands back, all zeros where no message is held.
