@@ -3,7 +3,7 @@ mod Counters
 mod Data
 mod Frames
 pub mod Headers
-mod Keys
+pub mod Keys
 mod Masks
 mod Modes
 mod Numbers

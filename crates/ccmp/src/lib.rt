@@ -14,12 +14,16 @@ mod opening; // opening.rt: a sealed frame opened
 
 pub use mode::ADDED;
 pub use opening::open;
+pub use record::FORMAT_COUNT;
 pub use record::MOST_KEY_ID;
 pub use record::MOST_NUMBER;
+pub use record::count_of;
+pub use record::counted;
 pub use record::fresh_receiver;
 pub use record::fresh_sender;
 pub use record::new_receiver;
 pub use record::new_sender;
+pub use record::sound_receiver;
 pub use record::sound_sender;
 pub use sealing::LEAST_BODY;
 pub use sealing::MOST_BODY;

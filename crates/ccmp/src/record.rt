@@ -21,7 +21,7 @@ pub const MOST_KEY_ID: u8 = 3;
 // The counts, each by its number in the rules.
 const NO_COUNT: u8 = 0;
 
-const FORMAT_COUNT: u8 = 1;
+pub const FORMAT_COUNT: u8 = 1;
 
 const REPLAY_COUNT: u8 = 2;
 
@@ -51,7 +51,7 @@ pub fn sound_sender(s: Sender) -> bool
     s.last <= MOST_NUMBER
 }
 
-pub(crate) fn sound_receiver(r: Receiver) -> bool
+pub fn sound_receiver(r: Receiver) -> bool
     ensures { λ b. ⌜ b ≡ soundReceiver r ⌝ }
 {
     let replay = r.replay;
@@ -130,7 +130,7 @@ pub fn fresh_receiver(key: [u8; KEY_OCTETS], key_id: u8, peer: [u8; ADDRESS_OCTE
 }
 
 // The count c, of value v, where the count m moves.
-fn counted(c: u8, m: u8, v: u32) -> u32
+pub fn counted(c: u8, m: u8, v: u32) -> u32
     ensures { λ r. ⌜ r ≡ counted c m v ⌝ }
 {
     if m == c {
@@ -152,7 +152,7 @@ fn counts_after(m: u8, c: Counts) -> Counts
 }
 
 // Which count a refusal moves.
-fn count_of(refusal: u8) -> u8
+pub fn count_of(refusal: u8) -> u8
     ensures { λ r. ⌜ r ≡ countOf (Answer.Refused refusal) ⌝ }
 {
     match refusal {

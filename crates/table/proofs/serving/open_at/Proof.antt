@@ -1,0 +1,81 @@
+-- Where there is no entry, or its flag is off, nothing is done; and otherwise its own call is, and put back.
+use mathlib.Core.Path.{_≡_, refl, sym, ap, ap₂, _∙_}
+use mathlib.Core.Bool.{true, false}
+use native.Mathlib.Omega.{arith}
+use borrow.Author.Tests.{lt-ltb, le-ltb, not-true, not-false}
+use lib.Dec.{ltb}
+use lib.ListN.{length, getD, length-map}
+use Rattle.rules.specs.Limits.{tableEntries}
+use Rattle.rules.specs.Answers.{told}
+use Rattle.rules.specs.Opening.{openAnswer, openNext, openOutput}
+use Rattle.rules.specs.Table.{withReceiver, entryAt, freeEntry, put, isPlace}
+use Rattle.rules.specs.declared.Receiver.{Receiver}
+use Rattle.rules.specs.Serving.{openedAt}
+use Rattle.rules.specs.declared.Entry.{Entry}
+use Rattle.rules.specs.declared.Table.{Table}
+use Rattle.table.proofs.Loops.{either-way}
+use Rattle.table.proofs.Served.{serves, mayOpen}
+use borrow.Author.Needs.{needs}
+use Rattle.table.proofs.serving.open_at.Statement.{statement}
+use Rattle.table.proofs.serving.open_at.Tie as tie
+
+size : (c : tie.Start) → length (c .args .t1 .entries) ≡ tableEntries
+size c = simp length-map at (c .good .0 .1 .1 .0 .1 .0 .1)
+
+abbrev start : tie.Else1 → tie.Start
+start c = c .before .before .before
+
+abbrev T : tie.Else1 → Table
+T c = start c .args .t1
+
+placed : (c : tie.Else1) → isPlace (T c) (start c .args .i) ≡ true
+placed c = ap (ltb (start c .args .i)) (size (start c)) ∙ lt-ltb _ _ (c .if1 .left)
+
+-- the entry, whatever is read past the last one
+entry-is : (c : tie.Else1) (d : Entry) → entryAt (T c) (start c .args .i) ≡ getD (T c .entries) (start c .args .i) d
+entry-is c d = either-way (T c .entries) (start c .args .i) freeEntry d (omega (arith, size (start c), c .if1 .left))
+
+returns : tie.Need-returns
+returns c =
+    let s = c .before .before .before in
+    rw (ap (ltb (s .args .i)) (size s) ∙ le-ltb _ _ (c .if1 .taken)) (refl, (refl, refl))
+
+returns-2 : tie.Need-returns-2
+returns-2 c =
+    let here = c .before .before .before in
+    rw (placed here, ap (λ (e : Entry). e .«may_receive») (entry-is here _) ∙ not-true _ (c .if2 .taken)) (refl, (refl, refl))
+
+returns-3 : tie.Need-returns-3
+returns-3 c =
+    let done = c .before .before .before .before in
+    let may = done .before .before .before in
+    let here = may .before .before .before in
+    let t = T here in
+    let i = start here .args .i in
+    let f = start here .args .frame .now in
+    let o = start here .args .out .now in
+    let same = entry-is here _ in
+    let receiver = ap (λ (e : Entry). e .receiver) (sym same) in
+    let own = entryAt t i .receiver in
+    let on : mayOpen t i ≡ true = rw (placed here) (ap (λ (e : Entry). e .«may_receive») same ∙ not-false _ (may .if2 .left)) in
+    let all = serves (mayOpen t i) (openAnswer own f o) (openedAt t i f o) t (openOutput own f o) o on in
+    let e = done .«open» .ensures in (
+      e .0 ∙ ap (λ (r : Receiver). told (openAnswer r f o)) receiver ∙ sym (ap told (all .0)),
+      (
+        c .put .ensures ∙ ap (put t i) (ap₂ withReceiver (sym same) (e .1 .0 ∙ ap (λ (r : Receiver). openNext r f o) receiver)) ∙ sym (all .1 .0),
+        e .1 .1 ∙ ap (λ (r : Receiver). openOutput r f o) receiver ∙ sym (all .1 .1),
+      ),
+    )
+
+pub open-at-spec : {M : Type 1} → statement M
+open-at-spec =
+    tie.close
+    (tie.spec
+    returns
+    (λ c. search needs)
+    (λ c. search needs)
+    returns-2
+    (λ c κs. search needs)
+    (λ c κs. search needs)
+    (λ c. search needs)
+    returns-3)

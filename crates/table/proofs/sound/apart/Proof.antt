@@ -1,0 +1,54 @@
+-- Each is compared with those after it.
+use mathlib.Core.Path.{_≡_, refl, sym, ap, _∙_}
+use mathlib.Core.Bool.{not}
+use Prim.Native.Nat.{ℕ, _+_, _-_, _≤_}
+use native.Mathlib.Omega.{arith}
+use borrow.Author.Tests.{not-true, not-false}
+use borrow.Author.Needs.{needs}
+use lib.ListN.{length, drop, length-map}
+use Rattle.rules.specs.Limits.{tableEntries}
+use Rattle.rules.specs.Table.{apartFrom, apart}
+use Rattle.table.proofs.Loops.{fails, goes-on, all-pass}
+use Rattle.table.proofs.sound.apart.Statement.{statement}
+use Rattle.table.proofs.sound.apart.Tie as tie
+
+abbrev Inv-loop : tie.InvT-loop
+Inv-loop t i₀ i = (i ≤ tableEntries) × (length (t .entries) ≡ tableEntries) × (apart (t .entries) ≡ apart (drop i (t .entries)))
+
+abbrev μ-loop : tie.MeasureT-loop
+μ-loop t i₀ i = tableEntries - i
+
+loop-holds : tie.Need-loop-holds Inv-loop μ-loop
+loop-holds c = (search needs, simp length-map at (c .good .0 .1 .1 .0 .1 .0 .1), refl)
+
+returns : tie.Need-returns Inv-loop μ-loop
+returns c =
+    let l = c .before .before .before .before in
+    sym (l .loop .inv .2 ∙ fails apart apartFrom refl (λ a es. refl) _ (l .loop .i) _ (search needs) (sym (c .before .apart-from .ensures) ∙ not-true _ (c .if1 .taken)))
+
+loop-again : tie.Need-loop-again Inv-loop μ-loop
+loop-again c =
+    let l = c .before .before .before .before in
+    (search needs, l .loop .inv .1, l .loop .inv .2 ∙ goes-on apart apartFrom refl (λ a es. refl) _ (l .loop .i) _ (search needs) (sym (c .before .apart-from .ensures) ∙ not-false _ (c .if1 .left)))
+
+returns-2 : tie.Need-returns-2 Inv-loop μ-loop
+returns-2 c =
+    let l = c .before in
+    sym (l .loop .inv .2 ∙ all-pass apart apartFrom refl (λ a es. refl) _ (l .loop .i) (omega (arith, l .loop .inv .1, c .loop-test .left)))
+
+pub apart-spec : {M : Type 1} → statement M
+apart-spec =
+    tie.close
+    (tie.spec
+    Inv-loop
+    μ-loop
+    loop-holds
+    (λ c. search needs)
+    (λ c. search needs)
+    (λ c. search needs)
+    (λ c κs. search needs)
+    returns
+    (λ c. search needs)
+    (λ c. search needs)
+    loop-again
+    returns-2)
