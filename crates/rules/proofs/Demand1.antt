@@ -37,12 +37,12 @@ same-bit true false e = absurd (omega arith)
 same-bit false true e = absurd (omega arith)
 same-bit false false e = refl
 
-one-more : (c : ℕ) (ns : List ℕ) (a : Answer) (v : ℕ) → moves c a ≡ has ns a → counted c (countOf a) v ≡ oneMore ns (answerNumber a) v
+pub one-more : (c : ℕ) (ns : List ℕ) (a : Answer) (v : ℕ) → moves c a ≡ has ns a → counted c (countOf a) v ≡ oneMore ns (answerNumber a) v
 one-more c ns a v e =
     ap (λ (b : Bool). cond b ((v + 1) % countLimit) v) (same-bit (eqb (countOf a) c) (among ns (answerNumber a)) e)
 
 -- the answers of a list of tests have these numbers where each test's does, and done
-numbered : (ns : List ℕ) (ts : List Test) (d : Answer) → T (ofEach (λ a. among ns (answerNumber a)) ts) → T (among ns (answerNumber d))
+pub numbered : (ns : List ℕ) (ts : List Test) (d : Answer) → T (ofEach (λ a. among ns (answerNumber a)) ts) → T (among ns (answerNumber d))
     → among ns (answerNumber (firstOf ts d)) ≡ true
 numbered ns ts d h e = is-true _ (of-first (λ a. among ns (answerNumber a)) ts d h e)
 

@@ -12,6 +12,11 @@ pub mod Fragmented
 pub mod Splits
 pub mod Sends
 pub mod Sums
+pub mod Tallies
+pub mod States
+pub mod Steps
+pub mod Counters
+pub mod Channels
 pub mod Runs
 pub mod Delivery
 pub mod Counting
@@ -19,4 +24,12 @@ pub mod Numbering
 pub mod Joined
 pub mod Returning
 pub mod Mixing
+pub mod Searching
+pub mod Projecting
+pub mod Sound
+pub mod Found
+pub mod TableDemand1
+pub mod TableDelivery
+pub mod TableOrders
+pub mod TableCounting
 pub mod Examples

@@ -1,14 +1,14 @@
 -- Which count each answer of opening moves, by a test of every answer.
 use mathlib.Core.Path.{_≡_}
 use mathlib.Core.Bool.{not}
-use mathlib.Core.List.{List, [], _∷_}
+use mathlib.Core.List.{List}
 use Prim.Native.Nat.{ℕ, _+_, _-_}
 use lib.Dec.{T, eqb, eqb→eq}
 use lib.ListN.{length}
 use Rattle.rules.specs.Header.{priority}
 use Rattle.rules.specs.Nonce.{number}
 use Rattle.rules.specs.Records.{formatCount, replayCount, decryptCount, openedCount, countOf}
-use Rattle.rules.specs.Answers.{among, answerNumber}
+use Rattle.rules.specs.Answers.{Test, firstOf, among, answerNumber}
 use Rattle.rules.specs.Opening.{openTests, openAnswer}
 use Rattle.rules.specs.Mode.{added}
 use Rattle.rules.specs.Demand1.{formatAnswers, replayAnswers, decryptAnswers, openedAnswers}
@@ -38,15 +38,20 @@ total a = moves formatCount a + moves replayCount a + moves decryptCount a + mov
 abbrev pub hasNot : List ℕ → Answer → ℕ
 hasNot ns a = bit (not (among ns (answerNumber a)))
 
+-- two functions that agree on every answer that a list of tests can give, by a test of each
+pub agree-first : (g h : Answer → ℕ) (ts : List Test) (d : Answer) → T (ofEach (λ a. eqb (g a) (h a)) ts) → T (eqb (g d) (h d))
+    → g (firstOf ts d) ≡ h (firstOf ts d)
+agree-first g h ts d t e = eqb→eq _ _ (of-first (λ a. eqb (g a) (h a)) ts d t e)
+
 module _ (r : Receiver) (f room : List ℕ) where
   abbrev done : Answer
   done = Done (number f) (priority f) (length f - added)
 
-  -- two functions that agree on every answer of opening, by a test of each
-  agree : (g h : Answer → ℕ) → T (ofEach (λ a. eqb (g a) (h a)) (openTests r f (length room))) → T (eqb (g done) (h done))
+  -- and on every answer of opening
+  pub agree : (g h : Answer → ℕ) → T (ofEach (λ a. eqb (g a) (h a)) (openTests r f (length room))) → T (eqb (g done) (h done))
       → g (openAnswer r f room) ≡ h (openAnswer r f room)
   unfolding openAnswer
-  agree g h t d = eqb→eq _ _ (of-first (λ a. eqb (g a) (h a)) (openTests r f (length room)) done t d)
+  agree g h t d = agree-first g h (openTests r f (length room)) done t d
 
   pub each-moves : EachMoves (openAnswer r f room)
   unfolding countOf
@@ -57,7 +62,3 @@ module _ (r : Receiver) (f room : List ℕ) where
         decrypt-errors = agree (moves decryptCount) (has decryptAnswers) tt tt;
         opened = agree (moves openedCount) (has openedAnswers) tt tt;
       }
-
-  pub once : total (openAnswer r f room) ≡ hasNot (1 ∷ 6 ∷ []) (openAnswer r f room)
-  unfolding countOf
-  once = agree total (hasNot (1 ∷ 6 ∷ [])) tt tt

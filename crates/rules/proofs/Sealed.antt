@@ -12,7 +12,7 @@ use lib.ListN.{length, take, drop, getD, length-drop, length-set, length-append,
 use lib.Seq.{getD-take, getD-set-same, getD-set-other, length-take-le, take-at, drop-at}
 use Rattle.octets.specs.Options.{contents}
 use Rattle.rules.specs.Limits.{mostNumber, leastHeader, mostHeader, ccmpOctets, leastBody, mostBody}
-use Rattle.rules.specs.Header.{part, headerLength, address2, priority, protected, authenticated, protect, unprotect}
+use Rattle.rules.specs.Header.{part, headerLength, address1, address2, priority, protected, authenticated, protect, unprotect}
 use Rattle.rules.specs.Nonce.{nonce, ccmpHeader, ccmpOf, textOf, extended, keyIdIn, number}
 use Rattle.rules.specs.Mode.{codeOctets, added, sealedText}
 use Rattle.rules.specs.Tests.{bodyOf}
@@ -23,7 +23,7 @@ use Rattle.rules.specs.Demand2.{Match, OpeningUndoesSealing}
 use Rattle.rules.specs.declared.Sender.{Sender}
 use Rattle.rules.specs.declared.Receiver.{Receiver}
 use Rattle.rules.specs.declared.Answer.the-variants.{Done, Refused}
-use Rattle.rules.proofs.Fields.{header-range, authenticated-size, data-range, Alike, kind-alike, length-alike, address-alike, priority-alike, authenticated-alike, unprotect-protect, number-in, key-in, extended-in}
+use Rattle.rules.proofs.Fields.{header-range, authenticated-size, data-range, Alike, kind-alike, length-alike, address1-alike, address-alike, priority-alike, authenticated-alike, unprotect-protect, number-in, key-in, extended-in}
 use Rattle.rules.proofs.Mode.{text-length, text-opens, text-is}
 use Rattle.rules.proofs.Passing.{not-outside, seal-done}
 
@@ -106,7 +106,7 @@ module _ (s : Sender) (f : List ℕ) (n : ℕ) (ok : Sealable s f) where
   unfolding sealedFrame
   sealed-part = ap (take ccmpOctets) (drop-at head (ccmp ++ text) (headerLength f) head-size) ∙ take-at ccmp text ccmpOctets ccmp-size
 
-  sealed-ccmp : ccmpOf (sealedFrame s n f) ≡ ccmp
+  pub sealed-ccmp : ccmpOf (sealedFrame s n f) ≡ ccmp
   sealed-ccmp = ap (λ (h : ℕ). part (sealedFrame s n f) h ccmpOctets) sealed-header ∙ sealed-part
 
   sealed-text : textOf (sealedFrame s n f) ≡ text
@@ -124,7 +124,10 @@ module _ (s : Sender) (f : List ℕ) (n : ℕ) (ok : Sealable s f) where
       authenticated-alike f (sealedFrame s n f) (headerLength f) sealed-alike (range .0) refl
       (let e = first-octet in omega arith) (other-octet 22 (omega (arith, range)) (omega arith))
 
-  sealed-address : address2 (sealedFrame s n f) ≡ address2 f
+  pub sealed-address1 : address1 (sealedFrame s n f) ≡ address1 f
+  sealed-address1 = address1-alike f (sealedFrame s n f) (headerLength f) sealed-alike (range .0)
+
+  pub sealed-address : address2 (sealedFrame s n f) ≡ address2 f
   sealed-address = address-alike f (sealedFrame s n f) (headerLength f) sealed-alike (range .0)
 
   head-back : unprotect head ≡ take (headerLength f) f

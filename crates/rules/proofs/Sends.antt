@@ -1,6 +1,6 @@
 -- What a call on a sender sealed: every frame is what sealing its original alone writes, and the numbers are the next ones, one after another.
 use mathlib.Core.Path.{_≡_, refl, sym, ap, ap₂, _∙_}
-use mathlib.Core.Bool.{true}
+use mathlib.Core.Bool.{true, cond}
 use mathlib.Core.List.{List, [], _∷_, _++_, append-nil, append-assoc}
 use Prim.Native.Nat.{ℕ, zero, suc, _+_, _-_, _<_, _≤_}
 use native.Mathlib.Nat.{not-suc-le-zero, add-zero, add-assoc, zero-add, suc-add}
@@ -13,15 +13,16 @@ use Rattle.octets.proofs.Booleans.{both}
 use Rattle.rules.specs.Limits.{mostNumber, mostKeyId}
 use Rattle.rules.specs.Header.{priority}
 use Rattle.rules.specs.Mode.{added}
-use Rattle.rules.specs.Records.{soundSender, withLast, senderNext}
+use Rattle.rules.specs.Records.{soundSender, soundReceiver, withLast, senderNext}
 use Rattle.rules.specs.Sealing.{sealedFrame, sealAnswer, sealOutput, Sealable}
 use Rattle.rules.specs.Opening.{openAnswer, openOutput}
 use Rattle.rules.specs.Splitting.{pieces, sealedFrames, splitAnswer, splitterNext, splitOutput}
 use Rattle.rules.specs.Calls.{Call}
 use Rattle.rules.specs.Sending.{SenderCall, sealing, splitting, sendAnswer, sendNext, sendOutput, originals, Sent, sentAt, sentFrom, sentBy, sendRun, sent}
 use Rattle.rules.specs.Demand2.{Match}
-use Rattle.rules.specs.Fragments.{SealedAlone, OpensAlone, FramesLikeOthers}
+use Rattle.rules.specs.Fragments.{SealedAlone, FramesLikeOthers}
 use Rattle.rules.specs.declared.Sender.{Sender}
+use Rattle.rules.specs.declared.Receiver.{Receiver}
 use Rattle.rules.specs.declared.Answer.{Answer}
 use Rattle.rules.specs.declared.Answer.the-variants.{Done, Refused}
 use Rattle.rules.proofs.Passing.{seal-answers, seal-done}
@@ -171,7 +172,7 @@ run-is s (c ∷ cs) =
     ∙ moved-on s (sendNext s c) (length (sentBy s c)) (length (sent (sendNext s c) cs)) (next-is s c)
     ∙ rw length-append
 
-next-sound : (s : Sender) (c : SenderCall) → soundSender s ≡ true → soundSender (sendNext s c) ≡ true
+pub next-sound : (s : Sender) (c : SenderCall) → soundSender s ≡ true → soundSender (sendNext s c) ≡ true
 unfolding soundSender splitterNext
 next-sound s c sound = rw (next-as s c) (go (sendAnswer s c) refl)
   where
@@ -211,6 +212,16 @@ pub parts-count : (s : Sender) (size : ℕ) (c : Call) (n p k : ℕ) → splitAn
     → length (sentBy s (splitting size c)) ≡ length (pieces size (c .frame))
 parts-count s size c n p k e = sent-length s (splitting size c) n p k e ∙ fragments-count size (c .frame)
 
+-- a match rests on no number
+pub still-matches : (s : Sender) (l : ℕ) (r : Receiver) → Match s r → Match (withLast s l) r
+still-matches s l r m = record { key = m .key; key-id = m .key-id; address = m .address }
+
+-- the receiver opens x to its original
+abbrev pub Opens : Receiver → Sent → List ℕ → Type 0
+Opens r x room =
+    (openAnswer r (x .octets) room ≡ Done (x .number) (x .priority) (length (x .original)))
+    × (openOutput r (x .octets) room ≡ x .original ++ drop (length (x .original)) room)
+
 -- a frame that was sealed among others is as one sealed alone
 module _ (s : Sender) (l : ℕ) (x : Sent) (g : Genuine (withLast s l) x) where
   alone : SealedAlone s x
@@ -221,16 +232,26 @@ module _ (s : Sender) (l : ℕ) (x : Sent) (g : Genuine (withLast s l) x) where
       let answer = seal-answers (withLast s l) f room (g .sealable) enough ∙ ap₂ (λ (n p : ℕ). Done n p (length f + added)) (sym (g .number-is)) (sym (g .priority-is)) in
       rw before (answer, rw (answer, g .octets-are, g .number-is))
 
-  opens : OpensAlone s x
-  unfolding openOutput
-  opens r room sound m enough below =
-      let t = withLast s l in
-      let f = x .original in
-      let match : Match t r = record { key = m .key; key-id = m .key-id; address = m .address } in
-      let answer : openAnswer r (sealedFrame t (x .number) f) room ≡ Done (x .number) (x .priority) (length f)
-      = sealed-answer t f (x .number) (g .sealable) (fits t x g) r sound match room enough
-      ∙ rw (← g .priority-is, lt-leb (x .number) (getD (r .replay) (x .priority) 0) below) in
-      rw (g .octets-are, answer, opened-frame t f (x .number) (g .sealable) (fits t x g) r sound match) (refl, refl)
+  -- what a sound matching receiver with room answers to it
+  module _ (r : Receiver) (room : List ℕ) (sound : soundReceiver r ≡ true) (m : Match s r) (enough : length (x .original) ≤ length room) where
+    abbrev counter : ℕ
+    counter = getD (r .replay) (x .priority) 0
+
+    abbrev done : Answer
+    done = Done (x .number) (x .priority) (length (x .original))
+
+    pub sent-answer : openAnswer r (x .octets) room ≡ cond (leb (x .number) counter) (Refused 10) done
+    sent-answer =
+        let t = withLast s l in
+        rw (g .octets-are, g .priority-is)
+        (sealed-answer t (x .original) (x .number) (g .sealable) (fits t x g) r sound (still-matches s l r m) room enough)
+
+    pub opens : counter < x .number → Opens r x room
+    unfolding openOutput
+    opens below =
+        let t = withLast s l in
+        let answer : openAnswer r (x .octets) room ≡ done = sent-answer ∙ rw (lt-leb (x .number) counter below) in
+        (answer, rw (answer, g .octets-are, opened-frame t (x .original) (x .number) (g .sealable) (fits t x g) r sound (still-matches s l r m)))
 
 pub frames-like-others : FramesLikeOthers
 frames-like-others s c x (b, l, is) =

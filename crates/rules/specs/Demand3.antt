@@ -39,8 +39,12 @@ IsReplayed r ds j = (openAnswerAt r ds j ≡ Refused 10) × (openOutputAt r ds j
 abbrev pub hasPriority : List ℕ → Bool
 hasPriority f = noneApplies (headerTests 0 f)
 
--- ys has the deliveries of xs, number i at place `to i`, and no two of one priority change places
-pub record Rearranged (xs ys : List Call) : Type 0 where
+-- the delivery has this priority
+abbrev pub InPriority : Call → ℕ → Type 0
+InPriority c p = (hasPriority (c .frame) ≡ true) × (priority (c .frame) ≡ p)
+
+-- ys has the deliveries of xs, number i at place `to i`, and no two in one channel change places; a receiver's channels are the priorities
+pub record Rearranged {D : Type 0} (In : Call → D → Type 0) (xs ys : List Call) : Type 0 where
   pub to : ℕ → ℕ
   pub from : ℕ → ℕ
   pub lengths : length ys ≡ length xs
@@ -49,9 +53,7 @@ pub record Rearranged (xs ys : List Call) : Type 0 where
   pub from-to : (i : ℕ) → i < length xs → from (to i) ≡ i
   pub to-from : (i : ℕ) → i < length xs → to (from i) ≡ i
   pub moved : (i : ℕ) → i < length xs → at ys (to i) ≡ at xs i
-  pub order :
-      (i j : ℕ) → i < j → j < length xs → hasPriority (at xs i .frame) ≡ true → hasPriority (at xs j .frame) ≡ true
-      → priority (at xs i .frame) ≡ priority (at xs j .frame) → to i < to j
+  pub order : (i j : ℕ) (q : D) → i < j → j < length xs → In (at xs i) q → In (at xs j) q → to i < to j
 
 -- first half: a frame that calls on the sender sealed, delivered unchanged, opens to its original exactly when its number is above all
 -- those opened before in its priority, and is otherwise a replay, whatever else arrives between
@@ -63,7 +65,7 @@ Delivered s r =
 -- second half: two orders that agree within each priority give each delivery the same answer and output, and leave the same record
 abbrev pub Reordered : Receiver → Type 0
 Reordered r =
-    (xs ys : List Call) → OctetFrames xs → (ρ : Rearranged xs ys)
+    (xs ys : List Call) → OctetFrames xs → (ρ : Rearranged InPriority xs ys)
     → ((i : ℕ) → i < length xs → (openAnswerAt r ys (ρ .to i) ≡ openAnswerAt r xs i) × (openOutputAt r ys (ρ .to i) ≡ openOutputAt r xs i))
     × (openRun r ys ≡ openRun r xs)
 

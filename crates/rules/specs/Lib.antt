@@ -21,4 +21,5 @@ pub mod Demand3
 pub mod Counts
 pub mod Numbers
 pub mod Fragments
+pub mod Tables
 pub mod Examples

@@ -1,0 +1,25 @@
+-- Fewer turns are left each time.
+use Prim.Native.Nat.{ℕ, _-_, _≤_}
+use borrow.Author.Needs.{needs}
+use Rattle.table_calls.proofs.main.Statement.{statement}
+use Rattle.table_calls.proofs.main.Tie as tie
+
+abbrev Inv-loop : tie.InvT-loop
+Inv-loop turns₀ turns = 0 ≤ turns
+
+abbrev μ-loop : tie.MeasureT-loop
+μ-loop turns₀ turns = turns
+
+pub main-spec : {M : Type 1} → statement M
+main-spec =
+    tie.close
+    (tie.spec
+    Inv-loop
+    μ-loop
+    (λ c. search needs)
+    (λ c κs. search needs)
+    (λ c. search needs)
+    (λ c. search needs)
+    (λ c. search needs)
+    (λ c. search needs)
+    (λ c. search needs))
