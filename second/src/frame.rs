@@ -22,7 +22,7 @@ pub const PROTECTED: u8 = 0x40;
 /// Bit b15, in the same octet.
 pub const ORDER: u8 = 0x80;
 /// In the key octet of the CCMP header.
-const EXT_IV: u8 = 0x20;
+pub(crate) const EXT_IV: u8 = 0x20;
 
 #[derive(Clone, Debug, Default, PartialEq, Eq)]
 pub struct Sender {
@@ -69,6 +69,9 @@ pub enum Refusal {
     Spent = 12,
     Cut = 13,
     Dropped = 14,
+    Absent = 15,
+    Full = 16,
+    Taken = 17,
 }
 
 pub type Answer = Result<Done, Refusal>;
@@ -212,7 +215,7 @@ impl Receiver {
         [self.format_errors, self.replays, self.decrypt_errors, self.opened]
     }
 
-    fn is_sound(&self) -> bool {
+    pub(crate) fn is_sound(&self) -> bool {
         self.key_id <= 3 && self.replay_counters.iter().all(|&counter| counter <= MAX_NUMBER)
     }
 

@@ -8,3 +8,4 @@ pub mod ccm;
 pub mod fragment;
 pub mod frame;
 pub mod sample;
+pub mod table;

@@ -24,6 +24,7 @@ pub mod Numbering
 pub mod Joined
 pub mod Returning
 pub mod Mixing
+pub mod Adding
 pub mod Searching
 pub mod Projecting
 pub mod Sound

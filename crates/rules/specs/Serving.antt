@@ -79,12 +79,12 @@ openComes t f room = noneApplies (tableOpenTests t f (length room))
 unfoldable pub tableOpenAnswer : Table → List ℕ → List ℕ → Answer
 tableOpenAnswer t f room = firstOf (tableOpenTests t f (length room)) (openAnswer (entryAt t (openPlace t f) .receiver) f room)
 
--- the table with what opening leaves of the entry at place i, and with its own format count after an answer
-abbrev pub openedAt : Table → ℕ → List ℕ → List ℕ → Table
-openedAt t i f room = put t i (withReceiver (entryAt t i) (openNext (entryAt t i .receiver) f room))
-
+-- the table with its own format count after an answer, and with what opening leaves of the entry at place i
 abbrev pub formatCounted : Table → Answer → Table
 formatCounted t a = record { entries = t .entries; «format_errors» = counted formatCount (countOf a) (t .«format_errors») }
+
+abbrev pub openedAt : Table → ℕ → List ℕ → List ℕ → Table
+openedAt t i f room = put t i (withReceiver (entryAt t i) (openNext (entryAt t i .receiver) f room))
 
 -- up to the search the table counts, and from there on the entry
 unfoldable pub tableOpenNext : Table → List ℕ → List ℕ → Table

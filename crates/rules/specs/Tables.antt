@@ -6,7 +6,7 @@ use mathlib.Core.Logic.{_↔_}
 use Prim.Native.Nat.{ℕ, _+_, _-_, _%_, _<_, _≤_}
 use lib.ListN.{length, take, drop, getD}
 use Rattle.octets.specs.Octets.{Octets}
-use Rattle.rules.specs.Limits.{countLimit}
+use Rattle.rules.specs.Limits.{mostKeyId, countLimit}
 use Rattle.rules.specs.Header.{address1, priority}
 use Rattle.rules.specs.Nonce.{number}
 use Rattle.rules.specs.Mode.{added}
@@ -15,8 +15,8 @@ use Rattle.rules.specs.Answers.{firstOf, among, answerNumber}
 use Rattle.rules.specs.Tests.{replayTest, codeTest, spentTest}
 use Rattle.rules.specs.Sealing.{sealAnswer, sealOutput}
 use Rattle.rules.specs.Opening.{openAnswer, openOutput, withoutReserved}
-use Rattle.rules.specs.Table.{senderOf, newEntry, freshTable, entryAt, soundTable}
-use Rattle.rules.specs.Adding.{addPlace, addAnswer, addNext, removeAnswer, removeNext}
+use Rattle.rules.specs.Table.{senderOf, newEntry, freshTable, entryAt, soundTable, isPlace, placeOf}
+use Rattle.rules.specs.Adding.{keyPlace, freePlace, addPlace, addAnswer, addNext, removeAnswer, removeNext}
 use Rattle.rules.specs.Serving.{sealPlace, tableSealTests, tableSealAnswer, tableSealNext, tableSealOutput, openPlace, tableOpenTests, tableOpenAnswer, openedAt, tableOpenNext, tableOpenOutput}
 use Rattle.rules.specs.Calls.{Call, OctetFrames, openRun}
 use Rattle.rules.specs.Sending.{SenderCall, Sent, Among, sendRun, sent}
@@ -48,6 +48,15 @@ TableOpenOrder =
     → let r = entryAt t (openPlace t f) .receiver in
     tableOpenAnswer t f room
     ≡ firstOf (tableOpenTests t f (length room) ++ (replayTest (r .replay) f ++ codeTest (r .key) f)) (Done (number f) (priority f) (length f - added))
+
+-- adding to a sound table under a key ID that fits: 17 where the key is in use, and otherwise 16 exactly where the triple is new and no
+-- entry is free
+abbrev pub AddAnswers : Type 0
+AddAnswers =
+    (t : Table) (x : Pairing) → soundTable t ≡ true → x .triple .«key_id» ≤ mostKeyId
+    → (isPlace t (keyPlace t (x .key)) ≡ true → addAnswer t x ≡ Refused 17)
+    × (isPlace t (keyPlace t (x .key)) ≡ false
+    → addAnswer t x ≡ Refused 16 ↔ ((isPlace t (placeOf t (x .triple)) ≡ false) × (isPlace t (freePlace t) ≡ false)))
 
 -- the numbers of each call's answers
 abbrev pub tableSealNumbers : List ℕ

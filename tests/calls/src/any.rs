@@ -1,7 +1,7 @@
 //! Rooms, numbers and records of any kind, at the limits of their ranges and beyond.
 
-use second::frame::{header_length, Sender, MAX_NUMBER};
-use second::sample::Random;
+use second::frame::{header_length, number_in, Receiver, Sender, MAX_NUMBER};
+use second::sample::{Random, SHORTEST_SEALED};
 
 /// Room that is enough for so many octets, or not, with any octets in it.
 pub fn room(random: &mut Random, needed: usize) -> Vec<u8> {
@@ -15,6 +15,11 @@ pub fn room(random: &mut Random, needed: usize) -> Vec<u8> {
         _ => needed,
     };
     random.octets(length)
+}
+
+/// Turns one bit over.
+pub fn flip(random: &mut Random, octets: &mut [u8]) {
+    octets[random.below(octets.len())] ^= 1 << random.below(8);
 }
 
 /// One frame in eight gets one of these lengths after its header.
@@ -42,8 +47,29 @@ pub fn number(random: &mut Random) -> u64 {
     }
 }
 
+/// One that is no packet number.
+pub fn beyond(random: &mut Random) -> u64 {
+    random.pick(&[MAX_NUMBER + 1, MAX_NUMBER + 2, 1 << 63, u64::MAX])
+}
+
 pub fn key_id(random: &mut Random) -> u8 {
     random.draw() as u8 & random.pick(&[0x03, 0x03, 0x07, 0xff])
+}
+
+pub fn key_id_over_3(random: &mut Random) -> u8 {
+    random.pick(&[4, 4, 5, 7, 8, 64, 128, 255])
+}
+
+/// A replay counter near the number of a sealed frame.
+pub fn counter_near(random: &mut Random, frame: &[u8]) -> u64 {
+    let number = if frame.len() >= SHORTEST_SEALED { number_in(&frame[header_length(frame)..]) } else { 0 };
+    (number + 2).saturating_sub(random.draw() % 5).min(MAX_NUMBER)
+}
+
+pub fn counts_near_their_end(random: &mut Random, receiver: &mut Receiver) {
+    for count in [&mut receiver.format_errors, &mut receiver.replays, &mut receiver.decrypt_errors, &mut receiver.opened] {
+        *count = u32::MAX - random.below(3) as u32;
+    }
 }
 
 /// This sender with one field changed.

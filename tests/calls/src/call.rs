@@ -1,8 +1,10 @@
 //! A call on either program, and what it leaves.
 
+use crate::program;
 use proved::Told;
 use second::fragment::Joiner;
-use second::frame::{Answer, Receiver, Sender};
+use second::frame::{Answer, Done, Receiver, Sender};
+use second::table::{Entry, Pairing, Table, Triple};
 use std::fmt;
 
 /// In the numbers of a record before it is made afresh.
@@ -15,6 +17,11 @@ pub enum Call {
     Open { receiver: Receiver, frame: Vec<u8>, room: Vec<u8> },
     Split { sender: Sender, frame: Vec<u8>, size: usize, room: Vec<u8> },
     Join { joiner: Box<Joiner>, frame: Vec<u8>, number: u64, room: Vec<u8> },
+    NewTable,
+    TableSeal { table: Box<Table>, key_id: u8, frame: Vec<u8>, room: Vec<u8> },
+    TableOpen { table: Box<Table>, frame: Vec<u8>, room: Vec<u8> },
+    TableAdd { table: Box<Table>, pairing: Pairing },
+    TableRemove { table: Box<Table>, triple: Triple },
 }
 
 /// A list of calls.
@@ -38,6 +45,21 @@ pub enum Record {
     Sender(Sender),
     Receiver(Receiver),
     Joiner(Box<Joiner>),
+    Table(Box<Table>),
+}
+
+/// What a receiver holds before it is made afresh.
+fn stale_receiver() -> Receiver {
+    Receiver { replay_counters: [STALE; 16], opened: STALE as u32, ..Receiver::default() }
+}
+
+/// What a table holds before: no zero anywhere.
+fn stale_table() -> Box<Table> {
+    let (key, own) = ([STALE as u8; 16], [STALE as u8; 6]);
+    let counts = Receiver { format_errors: 1, replays: 2, decrypt_errors: 3, ..stale_receiver() };
+    let receiver = Receiver { key, key_id: STALE as u8, peer: own, ..counts };
+    let entry = Entry { used: true, may_send: true, may_receive: true, own, last_number: STALE, receiver };
+    Box::new(Table { entries: std::array::from_fn(|_| entry.clone()), format_errors: STALE as u32 })
 }
 
 impl Call {
@@ -49,6 +71,20 @@ impl Call {
             Call::Open { .. } => "open",
             Call::Split { .. } => "split",
             Call::Join { .. } => "join",
+            Call::NewTable => "new table",
+            Call::TableSeal { .. } => "table seal",
+            Call::TableOpen { .. } => "table open",
+            Call::TableAdd { .. } => "table add",
+            Call::TableRemove { .. } => "table remove",
+        }
+    }
+
+    /// The table that it is made on.
+    pub fn table(&self) -> Option<&Table> {
+        match self {
+            Call::TableSeal { table, .. } | Call::TableOpen { table, .. } => Some(table),
+            Call::TableAdd { table, .. } | Call::TableRemove { table, .. } => Some(table),
+            _ => None,
         }
     }
 
@@ -61,8 +97,7 @@ impl Call {
                 Left { told, record: Record::Sender(sender), room: Vec::new() }
             }
             Call::FreshReceiver { key, key_id, peer } => {
-                let stale = Receiver { replay_counters: [STALE; 16], opened: STALE as u32, ..Receiver::default() };
-                let mut receiver = Receiver { key: *key, key_id: *key_id, peer: *peer, ..stale };
+                let mut receiver = Receiver { key: *key, key_id: *key_id, peer: *peer, ..stale_receiver() };
                 let told = proved::fresh_receiver(&mut receiver);
                 Left { told, record: Record::Receiver(receiver), room: Vec::new() }
             }
@@ -85,6 +120,31 @@ impl Call {
                 let (mut joiner, mut room) = (joiner.clone(), room.clone());
                 let told = proved::join(&mut joiner, frame, *number, &mut room);
                 Left { told, record: Record::Joiner(joiner), room }
+            }
+            Call::NewTable => {
+                let mut table = stale_table();
+                let told = program::new_table(&mut table);
+                Left { told, record: Record::Table(table), room: Vec::new() }
+            }
+            Call::TableSeal { table, key_id, frame, room } => {
+                let (mut table, mut room) = (table.clone(), room.clone());
+                let told = program::table_seal(&mut table, *key_id, frame, &mut room);
+                Left { told, record: Record::Table(table), room }
+            }
+            Call::TableOpen { table, frame, room } => {
+                let (mut table, mut room) = (table.clone(), room.clone());
+                let told = program::table_open(&mut table, frame, &mut room);
+                Left { told, record: Record::Table(table), room }
+            }
+            Call::TableAdd { table, pairing } => {
+                let mut table = table.clone();
+                let told = program::table_add(&mut table, pairing);
+                Left { told, record: Record::Table(table), room: Vec::new() }
+            }
+            Call::TableRemove { table, triple } => {
+                let mut table = table.clone();
+                let told = program::table_remove(&mut table, triple);
+                Left { told, record: Record::Table(table), room: Vec::new() }
             }
         }
     }
@@ -120,6 +180,27 @@ impl Call {
                 let answer = joiner.join(frame, *number, &mut room);
                 Left { told: told(answer), record: Record::Joiner(joiner), room }
             }
+            Call::NewTable => Left { told: told(Ok(Done::default())), record: Record::Table(Box::default()), room: Vec::new() },
+            Call::TableSeal { table, key_id, frame, room } => {
+                let (mut table, mut room) = (table.clone(), room.clone());
+                let answer = table.seal(*key_id, frame, &mut room);
+                Left { told: told(answer), record: Record::Table(table), room }
+            }
+            Call::TableOpen { table, frame, room } => {
+                let (mut table, mut room) = (table.clone(), room.clone());
+                let answer = table.open(frame, &mut room);
+                Left { told: told(answer), record: Record::Table(table), room }
+            }
+            Call::TableAdd { table, pairing } => {
+                let mut table = table.clone();
+                let answer = table.add(pairing);
+                Left { told: told(answer), record: Record::Table(table), room: Vec::new() }
+            }
+            Call::TableRemove { table, triple } => {
+                let mut table = table.clone();
+                let answer = table.remove(*triple);
+                Left { told: told(answer), record: Record::Table(table), room: Vec::new() }
+            }
         }
     }
 }
@@ -135,6 +216,10 @@ fn hex(octets: &[u8]) -> String {
     octets.iter().map(|octet| format!("{octet:02x}")).collect()
 }
 
+fn triple_words(triple: &Triple) -> String {
+    format!("own {} peer {} key ID {}", hex(&triple.own), hex(&triple.peer), triple.key_id)
+}
+
 impl fmt::Display for Record {
     fn fmt(&self, f: &mut fmt::Formatter) -> fmt::Result {
         match self {
@@ -146,6 +231,14 @@ impl fmt::Display for Record {
             Record::Joiner(j) => {
                 write!(f, "address {} priority {} sequence {:x} fragment {} ", hex(&j.address), j.priority, j.sequence, j.fragment)?;
                 write!(f, "last {:x} length {} held {}", j.number, j.length, hex(&j.held))
+            }
+            // Entries that are free and all zeros are left out.
+            Record::Table(t) => {
+                write!(f, "format errors {:x}", t.format_errors)?;
+                t.entries.iter().enumerate().filter(|(_, entry)| **entry != Entry::default()).try_for_each(|(place, e)| {
+                    write!(f, "\n  entry {place}: used {} may send {} may receive {} ", e.used, e.may_send, e.may_receive)?;
+                    write!(f, "own {} last {:x} {}", hex(&e.own), e.last_number, Record::Receiver(e.receiver.clone()))
+                })
             }
         }
     }
@@ -167,6 +260,18 @@ impl fmt::Display for Call {
                 write!(f, "number {number:x} ")?;
                 (Record::Joiner(joiner.clone()), frame, room)
             }
+            Call::NewTable => return Ok(()),
+            Call::TableSeal { table, key_id, frame, room } => {
+                write!(f, "key ID {key_id} ")?;
+                (Record::Table(table.clone()), frame, room)
+            }
+            Call::TableOpen { table, frame, room } => (Record::Table(table.clone()), frame, room),
+            Call::TableAdd { table, pairing } => {
+                let Pairing { triple, key, may_send, may_receive } = pairing;
+                write!(f, "{} key {} may send {may_send} may receive {may_receive} ", triple_words(triple), hex(key))?;
+                return write!(f, "{}", Record::Table(table.clone()));
+            }
+            Call::TableRemove { table, triple } => return write!(f, "{} {}", triple_words(triple), Record::Table(table.clone())),
         };
         write!(f, "{record}\n  frame {}\n  room {}", hex(frame), hex(room))
     }

@@ -2,11 +2,11 @@
 //! get lost, come again, late or damaged. Most calls take the record that the call before handed back. The others take one that differs from
 //! it in some field, and what they hand back is dropped.
 
+use crate::air::Air;
 use crate::any;
 use crate::call::{Call, Calls, Left, Record};
-use second::frame::{has_ht, header_length, number_in, Receiver, Sender, ADDED, MAX_BODY, MAX_NUMBER, ORDER};
-use second::sample::{Random, SHORTEST_SEALED};
-use std::collections::VecDeque;
+use second::frame::{has_ht, header_length, Receiver, Sender, ADDED, MAX_BODY, MAX_NUMBER, ORDER};
+use second::sample::Random;
 
 pub struct List {
     seed: u64,
@@ -14,10 +14,8 @@ pub struct List {
     made: usize,
     sender: Sender,
     receiver: Receiver,
-    /// Sealed frames on their way.
-    waiting: VecDeque<Vec<u8>>,
-    /// Those that were on their way before.
-    past: Vec<Vec<u8>>,
+    /// Between the two.
+    air: Air,
     /// Whether the record that the last call hands back goes into the next one.
     keeps: bool,
 }
@@ -43,12 +41,12 @@ impl Calls for List {
             return;
         }
         match left.record.clone() {
-            Record::Joiner(_) => {}
+            Record::Joiner(_) | Record::Table(_) => {}
             Record::Receiver(receiver) => self.receiver = receiver,
             Record::Sender(sender) => {
                 self.sender = sender;
                 if left.told[3] > 0 {
-                    self.waiting.push_back(left.room[..left.told[3] as usize].to_vec());
+                    self.air.send(&left.room[..left.told[3] as usize]);
                 }
             }
         }
@@ -61,7 +59,7 @@ impl List {
         let (key, key_id, address) = (random.array(), (seed % 4) as u8, random.array());
         let sender = Sender { key, key_id, address, ..Sender::default() };
         let receiver = Receiver { key, key_id, peer: address, ..Receiver::default() };
-        List { seed, random, made: 0, sender, receiver, waiting: VecDeque::new(), past: Vec::new(), keeps: true }
+        List { seed, random, made: 0, sender, receiver, air: Air::default(), keeps: true }
     }
 
     /// One list in three goes on from the fresh records. In the others numbers, or counts, soon come to their end.
@@ -75,7 +73,7 @@ impl List {
                 if self.random.one_in(2) {
                     self.sender.last_number = u64::from(self.key_octet()) << 40 | self.random.draw() >> 24;
                 }
-                counts_near_their_end(&mut self.random, &mut self.receiver);
+                any::counts_near_their_end(&mut self.random, &mut self.receiver);
             }
         }
     }
@@ -113,11 +111,11 @@ impl List {
     }
 
     fn open(&mut self) -> Call {
-        let Some(mut frame) = self.delivery() else {
+        let Some(mut frame) = self.air.delivery(&mut self.random) else {
             return self.seal();
         };
         match self.random.below(6) {
-            0 | 1 => self.damage(&mut frame),
+            0 | 1 => self.air.damage(&mut self.random, &mut frame),
             2 => self.turn_b15(&mut frame),
             _ => {}
         }
@@ -131,36 +129,10 @@ impl List {
         Call::Open { receiver, frame, room }
     }
 
-    /// The sealed frame to deliver next: in order or not, or again, or after one that was lost.
-    fn delivery(&mut self) -> Option<Vec<u8>> {
-        if self.random.one_in(12) {
-            self.waiting.pop_front();
-        }
-        if self.random.one_in(if self.waiting.is_empty() { 2 } else { 6 }) {
-            let place = self.random.below(self.past.len().max(1));
-            return self.past.get(place).cloned();
-        }
-        let place = if self.random.one_in(4) { self.random.below(self.waiting.len().max(1)) } else { 0 };
-        let frame = self.waiting.remove(place)?;
-        self.past.push(frame.clone());
-        Some(frame)
-    }
-
-    /// Damage to a sealed frame; the whole one may come after it.
-    fn damage(&mut self, frame: &mut Vec<u8>) {
-        if self.random.one_in(2) {
-            self.waiting.push_front(frame.clone());
-        }
-        any::resize(&mut self.random, frame, &[0, 1, 15, 16, 17, 18, 16 + MAX_BODY, 17 + MAX_BODY]);
-        while frame.len() >= SHORTEST_SEALED && !self.random.one_in(3) {
-            self.random.damage(frame);
-        }
-    }
-
     /// Turns b15 over in a sealed frame; the whole one comes after it. HT Control's last octet, which b15 cleared makes the key octet, may
     /// be a right one.
     fn turn_b15(&mut self, frame: &mut [u8]) {
-        self.waiting.push_front(frame.to_vec());
+        self.air.again(frame);
         let header = header_length(frame);
         if has_ht(frame) && self.random.one_in(2) {
             frame[header - 1] = self.key_octet();
@@ -177,18 +149,9 @@ impl List {
             2 => receiver.peer[self.random.below(6)] ^= 1 << self.random.below(8),
             3 | 4 => receiver.replay_counters[self.random.below(16)] = any::number(&mut self.random),
             5 => receiver.replay_counters = std::array::from_fn(|_| self.random.draw() >> 16),
-            6 | 7 => counts_near_their_end(&mut self.random, &mut receiver),
-            _ => {
-                let number = if frame.len() >= SHORTEST_SEALED { number_in(&frame[header_length(frame)..]) } else { 0 };
-                receiver.replay_counters = [(number + 2).saturating_sub(self.random.draw() % 5).min(MAX_NUMBER); 16];
-            }
+            6 | 7 => any::counts_near_their_end(&mut self.random, &mut receiver),
+            _ => receiver.replay_counters = [any::counter_near(&mut self.random, frame); 16],
         }
         receiver
-    }
-}
-
-fn counts_near_their_end(random: &mut Random, receiver: &mut Receiver) {
-    for count in [&mut receiver.format_errors, &mut receiver.replays, &mut receiver.decrypt_errors, &mut receiver.opened] {
-        *count = u32::MAX - random.below(3) as u32;
     }
 }

@@ -1,22 +1,29 @@
 //! Compares the proved code with `second` call by call, on any record, frame and room: the answer with its parts, the record handed back and
 //! every octet of the room.
 //!
-//!   calls [CALLS [SEED]]        528,000 calls and seed 1 where none is given; a seed gives 250 calls on frames and then 80 on fragments
+//!   calls [CALLS [SEED]]        784,000 calls and seed 1 where none is given; a seed gives 250 calls on frames, 80 on fragments and 160 on
+//!                               tables
 
+mod air;
 mod any;
 mod call;
 mod fragments;
 mod generate;
+mod program;
 mod seen;
+mod tables;
 
 use call::Calls;
 use fragments::Fragments;
 use generate::List;
 use seen::{Seen, DUE};
+use tables::Tables;
 
 const ON_FRAMES: usize = 250;
 const ON_FRAGMENTS: usize = 80;
-const LIST: usize = ON_FRAMES + ON_FRAGMENTS;
+const ON_TABLES: usize = 160;
+const UP_TO_TABLES: usize = ON_FRAMES + ON_FRAGMENTS;
+const LIST: usize = UP_TO_TABLES + ON_TABLES;
 /// A run of so many calls has to show all that is due often enough.
 const WHOLE_RUN: usize = 1_600 * LIST;
 const OFTEN: usize = 200;
@@ -33,9 +40,13 @@ fn main() {
     let lists = calls.div_ceil(LIST);
     let mut seen = Seen::default();
     for seed in first_seed..first_seed + lists as u64 {
-        let (mut on_frames, mut on_fragments) = (List::new(seed), Fragments::new(seed));
+        let (mut on_frames, mut on_fragments, mut on_tables) = (List::new(seed), Fragments::new(seed), Tables::new(seed));
         for number in 0..LIST {
-            let list: &mut dyn Calls = if number < ON_FRAMES { &mut on_frames } else { &mut on_fragments };
+            let list: &mut dyn Calls = match number {
+                0..ON_FRAMES => &mut on_frames,
+                ON_FRAMES..UP_TO_TABLES => &mut on_fragments,
+                _ => &mut on_tables,
+            };
             let call = list.next_call();
             let (ours, theirs) = (call.by_proved(), call.by_second());
             if ours != theirs {

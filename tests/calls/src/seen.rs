@@ -2,14 +2,23 @@
 
 use crate::call::{Call, Left, Record};
 use crate::fragments::{body, continued};
+use crate::tables::{asked_to_open, asked_to_seal, place_of, turned};
 use second::fragment::{Joiner, MAX_MESSAGE, MORE_FRAG};
 use second::frame::{has_ht, header_length, Receiver, Sender, MAX_NUMBER, ORDER};
-use std::collections::BTreeMap;
+use second::table::{Entry, Pairing, Table, Triple};
+use std::collections::{BTreeMap, BTreeSet};
 
 const PRIORITIES: &[u64] = &[0, 1, 2, 3, 4, 5, 6, 7, 8, 9, 10, 11, 12, 13, 14, 15];
+const PLACES: &[u64] = PRIORITIES;
+
+/// How many entries of a table can be in use.
+const IN_USE: &[u64] = &[0, 1, 2, 3, 4, 5, 6, 7, 8, 9, 10, 11, 12, 13, 14, 15, 16];
+
+/// What can be wrong with an entry: 0 its key ID, 1 its last number, 2 a replay counter, 3 its triple or 4 its key, which another in use has.
+const FAULTS: &[u64] = &[0, 1, 2, 3, 4];
 
 /// What a whole run has to show.
-pub const DUE: [(&str, &[u64]); 36] = [
+pub const DUE: &[(&str, &[u64])] = &[
     ("fresh sender, answer", &[0, 1]),
     ("fresh receiver, answer", &[0, 1]),
     ("seal, answer", &[0, 1, 2, 3, 4, 5, 6, 7, 12]),
@@ -47,6 +56,54 @@ pub const DUE: [(&str, &[u64]); 36] = [
     ("join, other packet number, answer", &[14]),
     ("join, nothing held, answer", &[14]),
     ("join, over 2,304 octets, answer", &[14]),
+    ("new table, answer", &[0]),
+    ("table seal, answer", &[0, 1, 2, 3, 4, 5, 6, 12, 15]),
+    ("table open, answer", &[0, 1, 2, 3, 4, 5, 6, 8, 10, 11, 15]),
+    ("table add, answer", &[0, 1, 16, 17]),
+    ("table remove, answer", &[0, 1, 15]),
+    ("table seal, entries in use", IN_USE),
+    ("table open, entries in use", IN_USE),
+    ("table add, entries in use", IN_USE),
+    ("table remove, entries in use", IN_USE),
+    ("table seal, done with entries in use", &[1, 15, 16]),
+    ("table open, done with entries in use", &[1, 15, 16]),
+    ("table add, done with entries in use", &[0, 1, 15, 16]),
+    ("table remove, done with entries in use", &[1, 15, 16]),
+    ("table seal, priority", PRIORITIES),
+    ("table open, priority", PRIORITIES),
+    ("table seal, header without HT Control", &[24, 26, 30, 32]),
+    ("table open, header without HT Control", &[24, 26, 30, 32]),
+    ("table seal, header with HT Control", &[30, 36]),
+    ("table open, header with HT Control", &[30, 36]),
+    ("table seal, done at place", PLACES),
+    ("table open, done at place", PLACES),
+    ("table remove, done at place", PLACES),
+    ("table add, new at place", PLACES),
+    ("table add, restarted at place", PLACES),
+    ("table add, new, free places before one in use", &[0, 1, 2]),
+    ("table add, new where a free entry was not all zeros, answer", &[0]),
+    ("table add, key of a free entry, answer", &[0]),
+    ("table add, key ID over 3 to a sound table, answer", &[1]),
+    // 0 the entry's own key again, or another entry's for a triple that is 1 present, 2 new, 3 new with no entry free.
+    ("table add, answer 17 by", &[0, 1, 2, 3]),
+    // By no other fault.
+    ("table seal, answer 1 by", FAULTS),
+    ("table open, answer 1 by", FAULTS),
+    ("table add, answer 1 by", FAULTS),
+    ("table remove, answer 1 by", FAULTS),
+    ("table seal, done beside a free entry's fault", FAULTS),
+    ("table open, done beside a free entry's fault", FAULTS),
+    ("table add, done beside a free entry's fault", FAULTS),
+    ("table remove, done beside a free entry's fault", FAULTS),
+    // An entry has the rest of the triple, but not 0 the own address, 1 the peer's, 2 the key ID or 3 a key ID over 3; or it has all of it,
+    // but 4 the addresses changed about, 5 it is free or 6 its flag is off.
+    ("table seal, answer 15 by", &[0, 1, 2, 3, 4, 5, 6]),
+    ("table open, answer 15 by", &[0, 1, 2, 4, 5, 6]),
+    ("table remove, answer 15 by", &[0, 1, 2, 3, 4, 5]),
+    ("table open, answer that moved the table's count", &[2, 3, 4, 5, 8]),
+    ("table open, table's count gone back to 0", &[0]),
+    ("table open, entry's count moved", &[1, 2, 3]),
+    ("table open, entry's count gone back to 0", &[1, 2, 3]),
 ];
 
 /// How often each thing was seen.
@@ -60,8 +117,11 @@ impl Seen {
 
     pub fn call(&mut self, call: &Call, left: &Left) {
         self.add(format!("{}, answer", call.name()), left.told[0]);
+        if let Some(table) = call.table() {
+            self.table(call.name(), table, left);
+        }
         match call {
-            Call::FreshSender { .. } | Call::FreshReceiver { .. } => {}
+            Call::FreshSender { .. } | Call::FreshReceiver { .. } | Call::NewTable => {}
             Call::Seal { frame, .. } => self.done(call, frame, left),
             Call::Open { receiver, frame, .. } => {
                 self.done(call, frame, left);
@@ -75,6 +135,17 @@ impl Seen {
                 self.done(call, frame, left);
                 self.join(joiner, frame, *number, left);
             }
+            Call::TableSeal { table, key_id, frame, .. } => {
+                self.done(call, frame, left);
+                self.search(call.name(), table, asked_to_seal(frame, *key_id), left);
+            }
+            Call::TableOpen { table, frame, .. } => {
+                self.done(call, frame, left);
+                self.search(call.name(), table, asked_to_open(frame), left);
+                self.table_counts(table, left);
+            }
+            Call::TableAdd { table, pairing } => self.table_add(table, pairing, left),
+            Call::TableRemove { table, triple } => self.search(call.name(), table, Some(*triple), left),
         }
     }
 
@@ -93,9 +164,13 @@ impl Seen {
         let Record::Receiver(after) = &left.record else {
             return;
         };
-        for (which, (before, now)) in (0..).zip(receiver.counts().into_iter().zip(after.counts())) {
+        self.counts("", receiver, after);
+    }
+
+    fn counts(&mut self, whose: &str, before: &Receiver, after: &Receiver) {
+        for (which, (before, now)) in (0..).zip(before.counts().into_iter().zip(after.counts())) {
             if now != before {
-                self.add(String::from(if now == 0 { "count gone back to 0" } else { "count moved" }), which);
+                self.add(format!("{whose}{}", if now == 0 { "count gone back to 0" } else { "count moved" }), which);
             }
         }
     }
@@ -135,6 +210,91 @@ impl Seen {
         self.add(format!("join, {kind}, answer"), left.told[0]);
     }
 
+    /// Of any call on a table.
+    fn table(&mut self, name: &str, table: &Table, left: &Left) {
+        let entries = in_use(table);
+        self.add(format!("{name}, entries in use"), entries.len() as u64);
+        match left.told[0] {
+            0 => {
+                self.add(format!("{name}, done with entries in use"), entries.len() as u64);
+                let free = table.entries.iter().filter(|entry| !entry.used);
+                let faults: BTreeSet<u64> = free.flat_map(|entry| faults(entry, &entries)).collect();
+                faults.into_iter().for_each(|fault| self.add(format!("{name}, done beside a free entry's fault"), fault));
+            }
+            1 => {
+                if let [fault] = faults_in_use(table)[..] {
+                    self.add(format!("{name}, answer 1 by"), fault);
+                }
+            }
+            _ => {}
+        }
+    }
+
+    fn search(&mut self, name: &str, table: &Table, asked: Option<Triple>, left: &Left) {
+        let Some(asked) = asked else {
+            return;
+        };
+        match (left.told[0], place_of(table, asked)) {
+            (0, Some(place)) => self.add(format!("{name}, done at place"), place as u64),
+            (15, _) => misses(table, asked).into_iter().for_each(|miss| self.add(format!("{name}, answer 15 by"), miss)),
+            _ => {}
+        }
+    }
+
+    fn table_counts(&mut self, table: &Table, left: &Left) {
+        let Record::Table(after) = &left.record else {
+            return;
+        };
+        if after.format_errors != table.format_errors {
+            self.add(String::from("table open, answer that moved the table's count"), left.told[0]);
+            if after.format_errors == 0 {
+                self.add(String::from("table open, table's count gone back to 0"), 0);
+            }
+        }
+        for (before, now) in table.entries.iter().zip(&after.entries) {
+            self.counts("table open, entry's ", &before.receiver, &now.receiver);
+        }
+    }
+
+    fn table_add(&mut self, table: &Table, pairing: &Pairing, left: &Left) {
+        let present = place_of(table, pairing.triple);
+        match left.told[0] {
+            0 => self.added(table, pairing, present, left),
+            1 if faults_in_use(table).is_empty() => self.add(String::from("table add, key ID over 3 to a sound table, answer"), 1),
+            17 => {
+                let holder = table.entries.iter().position(|entry| entry.used && entry.receiver.key == pairing.key);
+                let reason = match present {
+                    Some(_) if present == holder => 0,
+                    Some(_) => 1,
+                    None if table.entries.iter().any(|entry| !entry.used) => 2,
+                    None => 3,
+                };
+                self.add(String::from("table add, answer 17 by"), reason);
+            }
+            _ => {}
+        }
+    }
+
+    fn added(&mut self, table: &Table, pairing: &Pairing, present: Option<usize>, left: &Left) {
+        if table.entries.iter().any(|entry| !entry.used && entry.receiver.key == pairing.key) {
+            self.add(String::from("table add, key of a free entry, answer"), 0);
+        }
+        match (present, &left.record) {
+            (Some(place), _) => self.add(String::from("table add, restarted at place"), place as u64),
+            (None, Record::Table(after)) => {
+                let place = place_of(after, pairing.triple).expect("the entry that was added");
+                self.add(String::from("table add, new at place"), place as u64);
+                if table.entries[place] != Entry::default() {
+                    self.add(String::from("table add, new where a free entry was not all zeros, answer"), 0);
+                }
+                let last = table.entries.iter().rposition(|entry| entry.used).unwrap_or_default();
+                let free = table.entries[..last].iter().filter(|entry| !entry.used).count();
+                self.add(String::from("table add, new, free places before one in use"), free as u64);
+            }
+            _ => {}
+        }
+    }
+
     pub fn times(&self, what: &str, number: u64) -> usize {
         self.0.get(&(what.into(), number)).copied().unwrap_or_default()
     }
@@ -164,4 +324,44 @@ fn reasons(joiner: &Joiner, frame: &[u8], number: u64) -> Vec<&'static str> {
         ("over 2,304 octets", joiner.length + body(frame) > MAX_MESSAGE),
     ];
     all.into_iter().filter_map(|(reason, holds)| holds.then_some(reason)).collect()
+}
+
+fn in_use(table: &Table) -> Vec<&Entry> {
+    table.entries.iter().filter(|entry| entry.used).collect()
+}
+
+/// What is wrong with an entry beside these others.
+fn faults(entry: &Entry, others: &[&Entry]) -> Vec<u64> {
+    let all = [
+        entry.receiver.key_id > 3,
+        entry.last_number > MAX_NUMBER,
+        entry.receiver.replay_counters.iter().any(|&counter| counter > MAX_NUMBER),
+        others.iter().any(|other| other.triple() == entry.triple()),
+        others.iter().any(|other| other.receiver.key == entry.receiver.key),
+    ];
+    FAULTS.iter().zip(all).filter_map(|(&fault, holds)| holds.then_some(fault)).collect()
+}
+
+/// What is wrong with a table.
+fn faults_in_use(table: &Table) -> Vec<u64> {
+    let entries = in_use(table);
+    let all: BTreeSet<u64> = (0..entries.len()).flat_map(|at| faults(entries[at], &entries[at + 1..])).collect();
+    all.into_iter().collect()
+}
+
+/// Why no entry is found for this triple, or none that has its flag on.
+fn misses(table: &Table, asked: Triple) -> BTreeSet<u64> {
+    let miss = |entry: &Entry| {
+        let has = entry.triple();
+        match (entry.used, has.own == asked.own, has.peer == asked.peer, has.key_id == asked.key_id) {
+            (true, false, true, true) => Some(0),
+            (true, true, false, true) => Some(1),
+            (true, true, true, false) => Some(if asked.key_id > 3 { 3 } else { 2 }),
+            (true, ..) if turned(has) == asked => Some(4),
+            (false, true, true, true) => Some(5),
+            (true, true, true, true) => Some(6),
+            _ => None,
+        }
+    };
+    table.entries.iter().filter_map(miss).collect()
 }

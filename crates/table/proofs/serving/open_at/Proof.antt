@@ -35,6 +35,13 @@ placed c = ap (ltb (start c .args .i)) (size (start c)) ∙ lt-ltb _ _ (c .if1 .
 entry-is : (c : tie.Else1) (d : Entry) → entryAt (T c) (start c .args .i) ≡ getD (T c .entries) (start c .args .i) d
 entry-is c d = either-way (T c .entries) (start c .args .i) freeEntry d (omega (arith, size (start c), c .if1 .left))
 
+-- its flag, as it is asked
+off : (c : tie.Then2) → let here = c .before .before .before in entryAt (T here) (start here .args .i) .«may_receive» ≡ false
+off c = ap (λ (e : Entry). e .«may_receive») (entry-is (c .before .before .before) _) ∙ not-true _ (c .if2 .taken)
+
+on : (c : tie.Else2) → let here = c .before .before .before in entryAt (T here) (start here .args .i) .«may_receive» ≡ true
+on c = ap (λ (e : Entry). e .«may_receive») (entry-is (c .before .before .before) _) ∙ not-false _ (c .if2 .left)
+
 returns : tie.Need-returns
 returns c =
     let s = c .before .before .before in
@@ -43,7 +50,7 @@ returns c =
 returns-2 : tie.Need-returns-2
 returns-2 c =
     let here = c .before .before .before in
-    rw (placed here, ap (λ (e : Entry). e .«may_receive») (entry-is here _) ∙ not-true _ (c .if2 .taken)) (refl, (refl, refl))
+    rw (placed here, off c) (refl, (refl, refl))
 
 returns-3 : tie.Need-returns-3
 returns-3 c =
@@ -57,8 +64,8 @@ returns-3 c =
     let same = entry-is here _ in
     let receiver = ap (λ (e : Entry). e .receiver) (sym same) in
     let own = entryAt t i .receiver in
-    let on : mayOpen t i ≡ true = rw (placed here) (ap (λ (e : Entry). e .«may_receive») same ∙ not-false _ (may .if2 .left)) in
-    let all = serves (mayOpen t i) (openAnswer own f o) (openedAt t i f o) t (openOutput own f o) o on in
+    let serves-now : mayOpen t i ≡ true = rw (placed here) (on may) in
+    let all = serves (mayOpen t i) (openAnswer own f o) (openedAt t i f o) t (openOutput own f o) o serves-now in
     let e = done .«open» .ensures in (
       e .0 ∙ ap (λ (r : Receiver). told (openAnswer r f o)) receiver ∙ sym (ap told (all .0)),
       (

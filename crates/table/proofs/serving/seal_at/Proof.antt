@@ -35,6 +35,13 @@ placed c = ap (ltb (start c .args .i)) (size (start c)) ∙ lt-ltb _ _ (c .if1 .
 entry-is : (c : tie.Else1) (d : Entry) → entryAt (T c) (start c .args .i) ≡ getD (T c .entries) (start c .args .i) d
 entry-is c d = either-way (T c .entries) (start c .args .i) freeEntry d (omega (arith, size (start c), c .if1 .left))
 
+-- its flag, as it is asked
+off : (c : tie.Then2) → let here = c .before .before .before in entryAt (T here) (start here .args .i) .«may_send» ≡ false
+off c = ap (λ (e : Entry). e .«may_send») (entry-is (c .before .before .before) _) ∙ not-true _ (c .if2 .taken)
+
+on : (c : tie.Else2) → let here = c .before .before .before in entryAt (T here) (start here .args .i) .«may_send» ≡ true
+on c = ap (λ (e : Entry). e .«may_send») (entry-is (c .before .before .before) _) ∙ not-false _ (c .if2 .left)
+
 returns : tie.Need-returns
 returns c =
     let s = c .before .before .before in
@@ -43,7 +50,7 @@ returns c =
 returns-2 : tie.Need-returns-2
 returns-2 c =
     let here = c .before .before .before in
-    rw (placed here, ap (λ (e : Entry). e .«may_send») (entry-is here _) ∙ not-true _ (c .if2 .taken)) (refl, (refl, refl))
+    rw (placed here, off c) (refl, (refl, refl))
 
 returns-3 : tie.Need-returns-3
 returns-3 c =
@@ -57,8 +64,8 @@ returns-3 c =
     let same = entry-is here _ in
     let sender : done .before .before .sender-of .result ≡ senderOf (entryAt t i) = done .before .before .sender-of .ensures ∙ ap senderOf (sym same) in
     let own = senderOf (entryAt t i) in
-    let on : maySeal t i ≡ true = rw (placed here) (ap (λ (e : Entry). e .«may_send») same ∙ not-false _ (may .if2 .left)) in
-    let all = serves (maySeal t i) (sealAnswer own f o) (sealedAt t i f o) t (sealOutput own f o) o on in
+    let serves-now : maySeal t i ≡ true = rw (placed here) (on may) in
+    let all = serves (maySeal t i) (sealAnswer own f o) (sealedAt t i f o) t (sealOutput own f o) o serves-now in
     let e = done .seal .ensures in (
       e .0 ∙ ap (λ (s : Sender). told (sealAnswer s f o)) sender ∙ sym (ap told (all .0)),
       (
