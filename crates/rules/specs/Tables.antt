@@ -26,7 +26,6 @@ use Rattle.rules.specs.Demand3.{Rearranged}
 use Rattle.rules.specs.Counts.{howMany}
 use Rattle.rules.specs.declared.Sender.{Sender}
 use Rattle.rules.specs.declared.Receiver.{Receiver}
-use Rattle.rules.specs.declared.Counts.{Counts}
 use Rattle.rules.specs.declared.Answer.{Answer}
 use Rattle.rules.specs.declared.Answer.the-variants.{Done, Refused}
 use Rattle.rules.specs.declared.Entry.{Entry}

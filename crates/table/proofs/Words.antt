@@ -9,7 +9,7 @@ use borrow.Author.Tests.{eqb-true, eq-eqb}
 use lib.Dec.{eqb}
 use lib.ListN.{length, take, drop, getD, length-take, length-drop}
 use lib.Seq.{take-all}
-use Rattle.octets.specs.Octets.{Octets, none, more, same}
+use Rattle.octets.specs.Octets.{Octets, more, same}
 use Rattle.octets.proofs.Booleans.{both, iff}
 use Rattle.octets.proofs.Lists.{each, each-is}
 use Rattle.rules.specs.Limits.{keyOctets}

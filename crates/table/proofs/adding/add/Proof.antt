@@ -1,12 +1,11 @@
 -- Test by test, and then the entry is put at its place.
-use mathlib.Core.Path.{_≡_, sym, ap, ap₂, _∙_}
+use mathlib.Core.Path.{_≡_, sym, ap₂, _∙_}
 use mathlib.Core.Bool.{true, false}
-use Prim.Native.Nat.{ℕ}
 use borrow.Author.Tests.{lt-leb, le-leb, lt-ltb, le-ltb, not-true, not-false}
 use lib.Dec.{leb, ltb}
 use lib.ListN.{length, length-map}
 use Rattle.rules.specs.Limits.{mostKeyId, tableEntries}
-use Rattle.rules.specs.Table.{newEntry, put, soundTable, isPlace}
+use Rattle.rules.specs.Table.{put, soundTable, isPlace}
 use Rattle.rules.specs.Adding.{keyPlace, addPlace}
 use Rattle.table.proofs.Changes.{add-refused, add-done}
 use borrow.Author.Needs.{needs}

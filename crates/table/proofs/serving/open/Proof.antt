@@ -56,15 +56,24 @@ sizes c = let t = tested c in formed (start t .args .t) 0 (leastBody + added) (m
 roomy : (c : tie.Else1) → let t = tested (c .before .before) in ltb (length (O t)) (length (F t) - added) ≡ false
 roomy c = le-ltb _ _ (c .if1 .left)
 
-place-is : (c : tie.After-place-of) → let t = tested (c .before .before .before .before .before .before .before) in c .place-of .result ≡ openPlace (start t .args .t) (F t)
-unfolding address1 address2
+-- the two addresses, as they are read
+own-is : (c : tie.After-address-at) → c .address-at .result ≡ address1 (F (tested (c .before .before .before .before .before)))
+unfolding address1
+own-is c = c .address-at .ensures
+
+peer-is : (c : tie.After-address-at2) → c .address-at2 .result ≡ address2 (F (tested (c .before .before .before .before .before .before)))
+unfolding address2
+peer-is c = c .address-at2 .ensures
+
+place-is : (c : tie.After-place-of) → let t = tested (c .before .before .before .before .before .before .before) in
+    c .place-of .result ≡ openPlace (start t .args .t) (F t)
 place-is c =
     let h = c .before .before .before .before .before .before .before in
     let t = tested h in
     let at = h .header .given .0 .0 .length in
     let id = sym (eqb-true _ _ (id-same (F t) at (fields h .length-is) (getD (F t) (at + 3) 0 / 64) refl)) in
     c .place-of .ensures
-    ∙ (λ i. placeOf (start t .args .t) (record { own = c .before .before .address-at .ensures i; peer = c .before .address-at2 .ensures i; «key_id» = id i }))
+    ∙ (λ i. placeOf (start t .args .t) (record { own = own-is (c .before .before) i; peer = peer-is (c .before) i; «key_id» = id i }))
 
 sub-if1 : tie.Need-sub-if1
 sub-if1 c = omega (arith, sizes (c .before))

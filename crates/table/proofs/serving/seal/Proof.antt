@@ -1,7 +1,7 @@
 -- A refusal before the search is the answer; otherwise the call through the entry found is.
-use mathlib.Core.Path.{_≡_, sym, ap, ap₂, _∙_}
-use mathlib.Core.Bool.{Bool, true}
-use mathlib.Core.List.{List, _++_}
+use mathlib.Core.Path.{_≡_, sym, _∙_}
+use mathlib.Core.Bool.{true}
+use mathlib.Core.List.{List}
 use Prim.Native.Nat.{ℕ, _+_, _≤_}
 use native.Mathlib.Omega.{arith}
 use borrow.Author.Tests.{lt-ltb, le-ltb}
@@ -13,7 +13,6 @@ use Rattle.rules.specs.Answers.{Test, noneApplies}
 use Rattle.rules.specs.Tests.{roomTest}
 use Rattle.rules.specs.Table.{placeOf}
 use Rattle.rules.specs.Serving.{sealPlace}
-use Rattle.rules.specs.declared.Table.{Table}
 use Rattle.rules.proofs.Passing.{none-append}
 use Rattle.ccmp.proofs.Verdicts.{refuses, passes}
 use Rattle.table.specs.Forms.{formTests}
@@ -45,13 +44,22 @@ passes-form c =
 long : (c : tie.Else1) → leastHeader ≤ length (F (c .before .before .before))
 long c = let t = c .before .before .before in formed (start t .args .t) 1 leastBody mostBody (F t) (passes-form (c .before)) .0
 
+-- the two addresses, as they are read
+own-is : (c : tie.After-address-at) → c .address-at .result ≡ address2 (F (c .before .before .before .before))
+unfolding address2
+own-is c = c .address-at .ensures
+
+peer-is : (c : tie.After-address-at2) → c .address-at2 .result ≡ address1 (F (c .before .before .before .before .before))
+unfolding address1
+peer-is c = c .address-at2 .ensures
+
 place-is : (c : tie.After-place-of) → let t = c .before .before .before .before .before .before in
     c .place-of .result ≡ sealPlace (start t .args .t) (start t .args .key-id) (F t)
-unfolding address1 address2
 place-is c =
     let t = c .before .before .before .before .before .before in
     c .place-of .ensures
-    ∙ ap₂ (λ (own peer : List ℕ). placeOf (start t .args .t) (record { own = own; peer = peer; «key_id» = start t .args .key-id })) (c .before .before .address-at .ensures) (c .before .address-at2 .ensures)
+    ∙ (λ i.
+    placeOf (start t .args .t) (record { own = own-is (c .before .before) i; peer = peer-is (c .before) i; «key_id» = start t .args .key-id }))
 
 returns : tie.Need-returns
 returns c =

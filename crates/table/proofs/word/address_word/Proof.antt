@@ -2,7 +2,7 @@
 use mathlib.Core.Path.{_≡_, ap}
 use native.Mathlib.Omega.{arith}
 use lib.ListN.{length}
-use Rattle.octets.specs.Octets.{Octets, none, more}
+use Rattle.octets.specs.Octets.{none, more}
 use Rattle.octets.proofs.Lists.{each-all}
 use Rattle.rules.specs.Limits.{addressOctets}
 use Rattle.table.specs.Words.{word}
