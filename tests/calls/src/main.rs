@@ -27,6 +27,8 @@ const LIST: usize = UP_TO_TABLES + ON_TABLES;
 /// A run of so many calls has to show all that is due often enough.
 const WHOLE_RUN: usize = 1_600 * LIST;
 const OFTEN: usize = 200;
+/// And so many calls on tables with no entry in use, one, all but one or all.
+const AT_LIMITS: usize = 50_000;
 
 fn stop(words: String) -> ! {
     eprintln!("{words}");
@@ -62,6 +64,11 @@ fn main() {
         if let Some(number) = numbers.iter().find(|&&number| calls >= WHOLE_RUN && seen.times(what, number) < OFTEN) {
             stop(format!("{what} {number} was seen fewer than {OFTEN} times"));
         }
+    }
+    let at_limits = seen.at_limits();
+    println!("calls on tables with 0, 1, 15 or 16 entries in use: {at_limits}");
+    if calls >= WHOLE_RUN && at_limits < AT_LIMITS {
+        stop(format!("these are fewer than {AT_LIMITS}"));
     }
     println!("{calls} calls from seed {first_seed} on: all alike");
 }

@@ -298,6 +298,12 @@ impl Seen {
     pub fn times(&self, what: &str, number: u64) -> usize {
         self.0.get(&(what.into(), number)).copied().unwrap_or_default()
     }
+
+    /// The calls on tables with 0, 1, 15 or 16 entries in use.
+    pub fn at_limits(&self) -> usize {
+        let calls = ["table seal", "table open", "table add", "table remove"];
+        calls.iter().flat_map(|call| [0, 1, 15, 16].map(|in_use| self.times(&format!("{call}, entries in use"), in_use))).sum()
+    }
 }
 
 /// Whether it is a QoS frame that opens, room given, with b15 turned over.
