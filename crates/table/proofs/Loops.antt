@@ -1,4 +1,4 @@
--- Loops over the entries: what is left of a search, and of a test of every entry, at each turn.
+-- Entries: what is left of a search, and of a test of every entry, at each turn of a loop; and the one at a place.
 use mathlib.Core.Path.{_≡_, refl, ap, _∙_}
 use mathlib.Core.Bool.{Bool, true, false, _&&_}
 use mathlib.Core.List.{List, [], _∷_}
@@ -6,10 +6,14 @@ use Prim.Native.Nat.{ℕ, zero, suc, _+_, _≤_, _<_}
 use native.Mathlib.Nat.{not-suc-le-zero, le-of-suc-le-suc}
 use native.Mathlib.Numerals.{add-one}
 use native.Mathlib.Omega.{arith}
+use borrow.Author.Tests.{lt-ltb, le-ltb}
+use lib.Dec.{ltb}
 use lib.ListN.{length, drop, getD, drop-of-length-le}
 use lib.Seq.{drop-cons}
-use Rattle.rules.specs.Table.{firstPlace}
+use Rattle.rules.specs.Limits.{tableEntries}
+use Rattle.rules.specs.Table.{entryAt, freeEntry, firstPlace, isPlace}
 use Rattle.rules.specs.declared.Entry.{Entry}
+use Rattle.rules.specs.declared.Table.{Table}
 
 -- the first place of an entry that passes b, looked for from place i on
 abbrev pub placeFrom : (Entry → Bool) → List Entry → ℕ → ℕ
@@ -42,7 +46,18 @@ module _ (every : List Entry → Bool) (b : Entry → List Entry → Bool) (none
   all-pass l = ap every (drop-of-length-le es l) ∙ none
 
 -- an entry, whatever is read past the last one
-pub either-way : (es : List Entry) (i : ℕ) (d d′ : Entry) → i < length es → getD es i d ≡ getD es i d′
+either-way : (es : List Entry) (i : ℕ) (d d′ : Entry) → i < length es → getD es i d ≡ getD es i d′
 either-way [] i d d′ l = absurd (not-suc-le-zero l)
 either-way (e ∷ es) zero d d′ l = refl
 either-way (e ∷ es) (suc i) d d′ l = either-way es i d d′ (le-of-suc-le-suc l)
+
+-- the places of a table, and the entry at one as it is read
+module _ (t : Table) (size : length (t .entries) ≡ tableEntries) (i : ℕ) where
+  pub is-place : i < tableEntries → isPlace t i ≡ true
+  is-place l = ap (ltb i) size ∙ lt-ltb i tableEntries l
+
+  pub no-place : tableEntries ≤ i → isPlace t i ≡ false
+  no-place l = ap (ltb i) size ∙ le-ltb i tableEntries l
+
+  pub read-at : (d : Entry) → i < tableEntries → getD (t .entries) i d ≡ entryAt t i
+  read-at d l = either-way (t .entries) i d freeEntry (omega (arith, size, l))

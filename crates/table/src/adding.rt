@@ -9,15 +9,13 @@ use crate::sound::sound_table;
 use ccmp::MOST_KEY_ID;
 use rules::Answer;
 use rules::ENTRIES;
-use rules::Entry;
 use rules::Pairing;
 use rules::Table;
 use rules::Triple;
 ghost use mathlib.Core.Path.{_≡_};
-ghost use Prim.Native.Nat.{_<_};
-ghost use Rattle.rules.specs.Limits.{tableEntries};
+ghost use mathlib.Core.Bool.{not};
 ghost use Rattle.rules.specs.Answers.{told};
-ghost use Rattle.rules.specs.Table.{freshTable, put};
+ghost use Rattle.rules.specs.Table.{freshTable, soundTable};
 ghost use Rattle.rules.specs.Adding.{addPlace, addAnswer, addNext, removeAnswer, removeNext};
 
 // A table with no entry in use.
@@ -32,14 +30,11 @@ pub fn new_table() -> Table
     }
 }
 
-// The table with e at place i.
-pub(crate) fn put(t: Table, i: usize, e: Entry) -> Table
-    requires { ⌜ i < tableEntries ⌝ }
-    ensures { λ u. ⌜ u ≡ put t i e ⌝ }
+// Whether a table is refused. The copy that this call makes of the table is given up before the next call makes one.
+fn unsound(t: Table) -> bool
+    ensures { λ r. ⌜ r ≡ not (soundTable t) ⌝ }
 {
-    let mut u = t;
-    u.entries[i] = e;
-    u
+    !sound_table(t)
 }
 
 // The place that adding takes: that of a present triple, or else the first free one.
@@ -55,65 +50,45 @@ fn add_place(t: Table, x: Triple) -> usize
 
 // Adds an entry with nothing sealed and nothing opened yet, or restarts the one of a present triple with a new key. A
 // refusal leaves the table as it was.
-pub fn add(t: Table, x: Pairing) -> Answered
+pub fn add(mut t: Table, x: Pairing) -> Answered
     ensures { λ r. ⌜ told (r .answer) ≡ told (addAnswer t x) ⌝ }
     ensures { λ r. ⌜ r .table ≡ addNext t x ⌝ }
 {
     let triple = x.triple;
-    if !sound_table(t) {
-        return Answered {
-            answer: Answer::Refused(1),
-            table: t,
-        };
-    }
-    if MOST_KEY_ID < triple.key_id {
-        return Answered {
-            answer: Answer::Refused(1),
-            table: t,
-        };
-    }
     let key = x.key;
-    if key_place(t, key) < ENTRIES {
-        return Answered {
-            answer: Answer::Refused(17),
-            table: t,
-        };
+    let mut answer = Answer::Done(0, 0, 0);
+    if unsound(t) {
+        answer = Answer::Refused(1);
+    } else if MOST_KEY_ID < triple.key_id {
+        answer = Answer::Refused(1);
+    } else if key_place(t, key) < ENTRIES {
+        answer = Answer::Refused(17);
+    } else {
+        let i = add_place(t, triple);
+        if i < ENTRIES {
+            t.entries[i] = new_entry(x);
+        } else {
+            answer = Answer::Refused(16);
+        }
     }
-    let i = add_place(t, triple);
-    if ENTRIES <= i {
-        return Answered {
-            answer: Answer::Refused(16),
-            table: t,
-        };
-    }
-    let next = put(t, i, new_entry(x));
-    Answered {
-        answer: Answer::Done(0, 0, 0),
-        table: next,
-    }
+    Answered { answer, table: t }
 }
 
 // Removes the entry of a triple. A refusal leaves the table as it was.
-pub fn remove(t: Table, x: Triple) -> Answered
+pub fn remove(mut t: Table, x: Triple) -> Answered
     ensures { λ r. ⌜ told (r .answer) ≡ told (removeAnswer t x) ⌝ }
     ensures { λ r. ⌜ r .table ≡ removeNext t x ⌝ }
 {
-    if !sound_table(t) {
-        return Answered {
-            answer: Answer::Refused(1),
-            table: t,
-        };
+    let mut answer = Answer::Done(0, 0, 0);
+    if unsound(t) {
+        answer = Answer::Refused(1);
+    } else {
+        let i = place_of(t, x);
+        if i < ENTRIES {
+            t.entries[i] = free_entry();
+        } else {
+            answer = Answer::Refused(15);
+        }
     }
-    let i = place_of(t, x);
-    if ENTRIES <= i {
-        return Answered {
-            answer: Answer::Refused(15),
-            table: t,
-        };
-    }
-    let next = put(t, i, free_entry());
-    Answered {
-        answer: Answer::Done(0, 0, 0),
-        table: next,
-    }
+    Answered { answer, table: t }
 }

@@ -1,152 +1,181 @@
--- A refusal before the search is the answer, and counted; otherwise the call through the entry found is.
-use mathlib.Core.Path.{_≡_, refl, sym, _∙_}
+-- A refusal before the search is the answer, and counted; then that there is no entry that may receive; and otherwise the entry's own call is,
+-- and put back.
+use mathlib.Core.Path.{_≡_, refl, sym, ap, ap₂, _∙_}
 use mathlib.Core.Bool.{true, false}
 use mathlib.Core.List.{List, _++_}
 use Prim.Native.Nat.{ℕ, _+_, _-_, _/_, _≤_}
 use native.Mathlib.Omega.{arith}
-use borrow.Author.Tests.{eqb-true, lt-ltb, le-ltb}
-use lib.Dec.{ltb}
-use lib.ListN.{length, getD}
-use Rattle.rules.specs.Limits.{leastHeader, leastBody, mostBody}
+use borrow.Author.Tests.{eqb-true}
+use lib.ListN.{length, getD, length-map}
+use Rattle.rules.specs.Limits.{tableEntries, leastHeader, leastBody, mostBody}
 use Rattle.rules.specs.Header.{address1, address2, headerLength, headerOf}
 use Rattle.rules.specs.Mode.{added}
-use Rattle.rules.specs.Records.{countOf}
-use Rattle.rules.specs.Answers.{Test, noneApplies}
+use Rattle.rules.specs.Records.{formatCount, counted}
+use Rattle.rules.specs.Answers.{told, noneApplies}
 use Rattle.rules.specs.Tests.{roomTest, extendedTest}
-use Rattle.rules.specs.Table.{placeOf}
+use Rattle.rules.specs.Opening.{openAnswer, openNext, openOutput}
+use Rattle.rules.specs.Table.{withReceiver, entryAt, put, placeOf}
 use Rattle.rules.specs.Serving.{openPlace}
+use Rattle.rules.specs.declared.Receiver.{Receiver}
+use Rattle.rules.specs.declared.Entry.{Entry}
+use Rattle.rules.specs.declared.Table.{Table}
 use Rattle.rules.proofs.Fields.{header-range}
-use Rattle.rules.proofs.Passing.{none-append}
 use Rattle.ccmp.proofs.Headers.{Fields, fields-of}
-use Rattle.ccmp.proofs.Keys.{extended-not, extended-set, id-same}
-use Rattle.ccmp.proofs.Verdicts.{refuses, passes}
-use Rattle.table.specs.Forms.{formTests}
-use Rattle.table.proofs.Served.{formed, then-refuses, open-refused, open-comes}
+use Rattle.ccmp.proofs.Keys.{id-same}
+use Rattle.ccmp.proofs.Verdicts.{passes}
+use Rattle.table.specs.Forms.{openForms}
+use Rattle.table.proofs.Loops.{is-place, no-place, read-at}
+use Rattle.table.proofs.Served.{formed, mayOpen, open-refused, open-missed, open-served}
 use borrow.Author.Needs.{needs}
 use Rattle.table.proofs.serving.open.Statement.{statement}
 use Rattle.table.proofs.serving.open.Tie as tie
 
-abbrev start : tie.After-form-tests → tie.Start
+abbrev start : tie.After-open-tests → tie.Start
 start c = c .before .before .before
 
-abbrev F : tie.After-form-tests → List ℕ
+abbrev T : tie.After-open-tests → Table
+T c = start c .args .t1
+
+abbrev F : tie.After-open-tests → List ℕ
 F c = start c .args .frame .now
 
-abbrev O : tie.After-form-tests → List ℕ
+abbrev O : tie.After-open-tests → List ℕ
 O c = start c .args .out .now
 
-abbrev forms : tie.After-form-tests → List Test
-forms c = formTests (start c .args .t) 0 (leastBody + added) (mostBody + added) (F c)
+size : (c : tie.After-open-tests) → length (T c .entries) ≡ tableEntries
+size c = simp length-map at (start c .good .0 .1 .1 .0 .1 .0 .1)
 
-abbrev more : tie.After-form-tests → List Test
-more c = roomTest (length (O c)) (length (F c) - added) ++ extendedTest (F c)
+passed : (c : tie.After-header) → let t = c .before .before in
+    (c .header .given .0 .0 ≡ headerOf (F t)) × (noneApplies (openForms (T t) (F t) (length (O t))) ≡ true)
+passed c =
+    let t = c .before .before in
+    passes (openForms (T t) (F t) (length (O t))) (headerOf (F t)) _ (sym (c .header .given .1) ∙ t .open-tests .ensures)
 
-abbrev tested : tie.After-header → tie.After-form-tests
-tested c = c .before .before
+fields : (c : tie.After-header) → Fields (F (c .before .before)) (c .header .given .0 .0)
+fields c = fields-of (F (c .before .before)) _ (passed c .0)
 
-passed : (c : tie.After-header) → let t = tested c in (c .header .given .0 .0 ≡ headerOf (F t)) × (noneApplies (forms t) ≡ true)
-passed c = let t = tested c in passes (forms t) (headerOf (F t)) _ (sym (c .header .given .1) ∙ t .form-tests .ensures)
-
-fields : (c : tie.After-header) → Fields (F (tested c)) (c .header .given .0 .0)
-fields c = fields-of (F (tested c)) _ (passed c .0)
-
-sizes : (c : tie.After-header) → let f = F (tested c) in (leastHeader ≤ length f) × (headerLength f + (leastBody + added) ≤ length f)
-sizes c = let t = tested c in formed (start t .args .t) 0 (leastBody + added) (mostBody + added) (F t) (passed c .1)
-
-roomy : (c : tie.Else1) → let t = tested (c .before .before) in ltb (length (O t)) (length (F t) - added) ≡ false
-roomy c = le-ltb _ _ (c .if1 .left)
+sizes : (c : tie.After-header) → let f = F (c .before .before) in (leastHeader ≤ length f) × (headerLength f + (leastBody + added) ≤ length f)
+sizes c =
+    let t = c .before .before in
+    formed (T t) 0 (leastBody + added) (mostBody + added) (F t) (roomTest (length (O t)) (length (F t) - added) ++ extendedTest (F t)) (passed c .1)
 
 -- the two addresses, as they are read
-own-is : (c : tie.After-address-at) → c .address-at .result ≡ address1 (F (tested (c .before .before .before .before .before)))
+own-is : (c : tie.After-address-at) → c .address-at .result ≡ address1 (F (c .before .before .before .before))
 unfolding address1
 own-is c = c .address-at .ensures
 
-peer-is : (c : tie.After-address-at2) → c .address-at2 .result ≡ address2 (F (tested (c .before .before .before .before .before .before)))
+peer-is : (c : tie.After-address-at2) → c .address-at2 .result ≡ address2 (F (c .before .before .before .before .before))
 unfolding address2
 peer-is c = c .address-at2 .ensures
 
-place-is : (c : tie.After-place-of) → let t = tested (c .before .before .before .before .before .before .before) in
-    c .place-of .result ≡ openPlace (start t .args .t) (F t)
+-- the place that is found, and the entry there
+abbrev headed : tie.After-place-of → tie.After-header
+headed c = c .before .before .before .before .before
+
+abbrev tested : tie.After-place-of → tie.After-open-tests
+tested c = headed c .before .before
+
+place-is : (c : tie.After-place-of) → let t = tested c in c .place-of .result ≡ openPlace (T t) (F t)
 place-is c =
-    let h = c .before .before .before .before .before .before .before in
-    let t = tested h in
+    let h = headed c in
+    let t = tested c in
     let at = h .header .given .0 .0 .length in
     let id = sym (eqb-true _ _ (id-same (F t) at (fields h .length-is) (getD (F t) (at + 3) 0 / 64) refl)) in
     c .place-of .ensures
-    ∙ (λ i. placeOf (start t .args .t) (record { own = own-is (c .before .before) i; peer = peer-is (c .before) i; «key_id» = id i }))
+    ∙ (λ i. placeOf (T t) (record { own = own-is (c .before .before .before) i; peer = peer-is (c .before .before) i; «key_id» = id i }))
 
-sub-if1 : tie.Need-sub-if1
-sub-if1 c = omega (arith, sizes (c .before))
+entry-is : (c : tie.Then1) (d : Entry) → let t = T (tested (c .before)) in
+    getD (t .entries) (c .before .place-of .result) d ≡ entryAt t (c .before .place-of .result)
+entry-is c d = let t = tested (c .before) in read-at (T t) (size t) (c .before .place-of .result) d (c .if1 .taken)
+
+-- its flag, as it is asked
+on : (c : tie.Then2) → let found = c .before .before .before in mayOpen (T (tested found)) (found .place-of .result) ≡ true
+on c =
+    let here = c .before .before in
+    let t = tested (here .before) in
+    rw (is-place (T t) (size t) (here .before .place-of .result) (here .if1 .taken)) (ap (λ (e : Entry). e .«may_receive») (sym (entry-is here _)) ∙ c .if2 .taken)
+
+off : (c : tie.Else2) → let found = c .before .before .before in mayOpen (T (tested found)) (found .place-of .result) ≡ false
+off c =
+    let here = c .before .before in
+    let t = tested (here .before) in
+    rw (is-place (T t) (size t) (here .before .place-of .result) (here .if1 .taken)) (ap (λ (e : Entry). e .«may_receive») (sym (entry-is here _)) ∙ c .if2 .left)
+
+address-at-requires : tie.Need-address-at-requires
+address-at-requires c κs = omega (arith, sizes (c .before))
+
+address-at-requires-2 : tie.Need-address-at-requires-2
+address-at-requires-2 c κs = omega (arith, sizes (c .before .before))
+
+add-key-id : tie.Need-add-key-id
+add-key-id c =
+    let h = c .before .before .before in
+    record { fits = omega (arith, fields h .length-is, header-range (F (h .before .before))) }
+
+shared-slice-read-key-id : tie.Need-shared-slice-read-key-id
+shared-slice-read-key-id c = let h = c .before .before .before .before in omega (arith, fields h .length-is, sizes h)
 
 returns : tie.Need-returns
-unfolding countOf
 returns c =
-    let h = c .before .before in
-    let t = tested h in
-    open-refused _ (F t) (O t) (headerOf (F t)) 6 _ (then-refuses (forms t) (more t) (headerOf (F t)) 6 (passed h .1) (rw (lt-ltb _ _ (c .if1 .taken)))) refl
-
-add-octet : tie.Need-add-octet
-add-octet c = let h = c .before .before in record { fits = omega (arith, fields h .length-is, header-range (F (tested h))) }
-
-shared-slice-read-octet : tie.Need-shared-slice-read-octet
-shared-slice-read-octet c = let h = c .before .before .before in omega (arith, fields h .length-is, sizes h)
+    let refused = c .before .before .before in
+    let t = refused .before .before in
+    let v = T t .«format_errors» in
+    let count = c .counted .ensures ∙ ap (λ (m : ℕ). counted formatCount m v) (c .before .count-of .ensures) in
+    open-refused _ (F t) (O t) (headerOf (F t)) _ _ (sym (refused .n .given .1) ∙ t .open-tests .ensures)
+    (λ i. record { entries = T t .entries; «format_errors» = count i })
 
 returns-2 : tie.Need-returns-2
 returns-2 c =
-    let known = c .before .before in
-    let enough = known .before in
-    let h = enough .before .before in
-    let t = tested h in
-    let at = h .header .given .0 .0 .length in
-    let plain = extended-not (F t) at (fields h .length-is) (known .shared-slice-known2 .given (at + 3) .fits) (c .before .if2 .taken) in
-    open-refused _ (F t) (O t) (headerOf (F t)) 8 _ (then-refuses (forms t) (more t) (headerOf (F t)) 8 (passed h .1) (rw (roomy enough, plain))) (c .after-refusal2 .ensures)
-
-address-at-requires : tie.Need-address-at-requires
-address-at-requires c κs = omega (arith, sizes (c .before .before .before .before))
-
-address-at-requires-2 : tie.Need-address-at-requires-2
-address-at-requires-2 c κs = omega (arith, sizes (c .before .before .before .before .before))
+    let done = c .before .before .before in
+    let may = done .before .before .before in
+    let here = may .before .before in
+    let found = here .before in
+    let t = T (tested found) in
+    let f = F (tested found) in
+    let o = O (tested found) in
+    let i = found .place-of .result in
+    let same = entry-is here _ in
+    let receiver = ap (λ (e : Entry). e .receiver) same in
+    let e = done .«open» .ensures in
+    open-served t f o i (place-is found) (passed (headed found) .1) (done .«open» .result .answer) _ _
+    (on may)
+    (e .0 ∙ ap (λ (r : Receiver). told (openAnswer r f o)) receiver)
+    (ap (put t i) (ap₂ withReceiver same (e .1 .0 ∙ ap (λ (r : Receiver). openNext r f o) receiver)))
+    (e .1 .1 ∙ ap (λ (r : Receiver). openOutput r f o) receiver)
 
 returns-3 : tie.Need-returns-3
 returns-3 c =
-    let told = c .before .before in
-    let t = told .before .before in
-    open-refused _ (F t) (O t) (headerOf (F t)) _ _ (refuses (forms t) (more t) (headerOf (F t)) _ (sym (told .refusal .given .1) ∙ t .form-tests .ensures)) (c .after-refusal .ensures)
+    let found = c .before .before .before in
+    let t = tested found in
+    open-missed (T t) (F t) (O t) _ (place-is found) (passed (headed found) .1) (off c)
 
 returns-4 : tie.Need-returns-4
 returns-4 c =
-    let done = c .before .before in
-    let found = done .before .before in
-    let set = found .before .before .before in
-    let known = set .before in
-    let enough = known .before in
-    let h = enough .before .before in
-    let t = tested h in
-    let at = h .header .given .0 .0 .length in
-    let marked = extended-set (F t) at (fields h .length-is) (known .shared-slice-known2 .given (at + 3) .fits) (set .if2 .left) in
-    let e = done .open-at .ensures in
-    open-comes _ (F t) (O t) _ (done .open-at .result .answer) _ _ (place-is found) (none-append (forms t) (more t) ∙ rw (passed h .1, roomy enough, marked)) (e .0) (e .1 .0) (e .1 .1)
+    let found = c .before in
+    let t = tested found in
+    open-missed (T t) (F t) (O t) _ (place-is found) (passed (headed found) .1) (rw (no-place (T t) (size t) (found .place-of .result) (c .if1 .left)))
 
 pub open-spec : {M : Type 1} → statement M
 open-spec =
     tie.close
     (tie.spec
-    (λ c. search needs)
-    (λ c. search needs)
     (λ c κs. search needs)
     (λ c. search needs)
     (λ c κs. search needs)
-    (λ c. search needs)
-    sub-if1
-    returns
-    add-octet
-    shared-slice-read-octet
     (λ c κs. search needs)
-    returns-2
+    (λ c. search needs)
     address-at-requires
     address-at-requires-2
+    add-key-id
+    shared-slice-read-key-id
     (λ c κs. search needs)
-    (λ c κs. search needs)
-    returns-3
     (λ c. search needs)
+    (λ c. search needs)
+    (λ c κs. search needs)
+    (λ c. search needs)
+    (λ c. search needs)
+    returns
+    (λ c. search needs)
+    returns-2
+    returns-3
     returns-4)
