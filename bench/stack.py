@@ -1,6 +1,7 @@
 #!/usr/bin/env python3
-"""The most stack that one seal, open, split and join can take by the compiled code: each function's return address, pushes, room for locals
-and what it uses below the stack pointer (x86-64 gives a function that calls no other 128 octets there), along the deepest chain of calls.
+"""The most stack that one seal, open, split and join can take by the compiled code, and the calls on a table: each function's return address,
+pushes, room for locals and what it uses below the stack pointer (x86-64 gives a function that calls no other 128 octets there), along the
+deepest chain of calls. A call on a table is counted without bench's function around it, which holds the tables passed and handed back.
 `memcpy` and `memset` are the platform's and not counted. bench/src/bin/stack.rs measures what calls do take.
 
   rt staticlib bench && bench/stack.py        needs objdump
@@ -27,6 +28,7 @@ def depth(name):
     return frames[name] + inner[0], [f"{name} {frames[name]}"] + inner[1]
 
 
-for name in "bench_ccmp_seal", "bench_ccmp_open", "bench_split", "bench_join":
+records = ["bench_ccmp_seal", "bench_ccmp_open", "bench_split", "bench_join"]
+for name in records + ["table::adding::add", "table::serving::seal", "table::serving::open"]:
     octets, chain = depth(name)
     print(f"{name}: {octets} octets ({', '.join(chain)})")

@@ -34,6 +34,15 @@ pub mod exported {
             held: &mut [u8; 2_304], length: &mut usize, address: &mut [u8; 6], priority: &mut u8, sequence: &mut u16, fragment: &mut u8,
             last: &mut u64, answer: &mut [u64; 4], frame: *const u8, frame_len: usize, number: u64, out: *mut u8, out_len: usize,
         );
+        pub fn bench_table_add(own: &[u8; 6], peer: &[u8; 6], key_id: u8, key: &[u8; 16], answer: &mut [u64; 4]);
+        pub fn bench_table_seal(
+            own: &[u8; 6], peer: &[u8; 6], key_id: u8, key: &[u8; 16], answer: &mut [u64; 4], frame: *const u8, frame_len: usize, out: *mut u8,
+            out_len: usize,
+        );
+        pub fn bench_table_open(
+            own: &[u8; 6], peer: &[u8; 6], key_id: u8, key: &[u8; 16], answer: &mut [u64; 4], frame: *const u8, frame_len: usize, out: *mut u8,
+            out_len: usize,
+        );
     }
 }
 

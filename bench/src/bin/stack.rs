@@ -1,8 +1,9 @@
 //! The most stack that one seal, open, split and join take, as it shows: each runs on a stack filled with a pattern, which is then looked
 //! through for the lowest octet that changed. Every header shape and body length is tried; opening with a right and a wrong code, splitting
-//! into as many fragments as may be, and joining of a first fragment, a next one, the last one and one that is dropped.
+//! into as many fragments as may be, and joining of a first fragment, a next one, the last one and one that is dropped. And that of bench's
+//! functions on a table with one camera, which hold three tables of their own beside what the two calls that they make take.
 
-use proved::exported::{bench_ccmp_open, bench_ccmp_seal, bench_join, bench_split};
+use proved::exported::{bench_ccmp_open, bench_ccmp_seal, bench_join, bench_split, bench_table_add, bench_table_open, bench_table_seal};
 use proved::Told;
 use second::fragment::{Joiner, MAX_FRAGMENTS, MAX_MESSAGE, MAX_SIZE, MIN_SIZE, MORE_FRAG};
 use second::frame::{header_length, Receiver, Sender, ADDED, MAX_BODY};
@@ -75,6 +76,17 @@ fn joining(stack: &mut Stack, filling: u8, mut j: Joiner, frame: &mut [u8], out:
     octets
 }
 
+/// With the entry of these addresses, key ID 0 and a key; `frames` is empty, or a frame and the room for what is made of it.
+fn with_table(stack: &mut Stack, filling: u8, function: usize, own: [u8; 6], peer: [u8; 6], frames: &[usize], answer: u64) -> usize {
+    let (mut own, mut peer, mut key, mut told) = (own, peer, [7u8; 16], [0; 4]);
+    let entry = [address_of(&mut own), address_of(&mut peer), 0, address_of(&mut key), address_of::<Told>(&mut told)];
+    let mut arguments = [&entry[..], frames].concat();
+    arguments.resize(arguments.len().max(IN_REGISTERS), 0);
+    let octets = octets_used(stack, filling, function, &arguments);
+    assert_eq!(told[0], answer);
+    octets
+}
+
 const ADDRESS: [u8; 6] = [2, 0, 0, 0, 0, 1];
 
 fn plain(control: [u8; 2], length: usize) -> Vec<u8> {
@@ -124,16 +136,39 @@ fn most_for_fragments(stack: &mut Stack, filling: u8, control: [u8; 2]) -> [usiz
     [split, joined]
 }
 
+/// Of adding, sealing and opening through a table. The second call of each is told: adding the same key again is refused, the frame sealed
+/// again is done, and the frame opened again is a replay; one with a wrong code is tried too.
+fn most_for_tables(stack: &mut Stack, filling: u8, control: [u8; 2]) -> [usize; 3] {
+    let [add, seal, open] = [bench_table_add as *const () as usize, bench_table_seal as *const () as usize, bench_table_open as *const () as usize];
+    let a1 = [0x11; 6];
+    let (mut sealed, mut opened) = (0, 0);
+    for length in 1..=MAX_BODY {
+        let mut plain = plain(control, length);
+        let (mut text, mut out) = (vec![0u8; plain.len() + ADDED], vec![0u8; plain.len()]);
+        let frames = [address_of(&mut plain[..]), plain.len(), address_of(&mut text[..]), text.len()];
+        sealed = sealed.max(with_table(stack, filling, seal, ADDRESS, a1, &frames, 0));
+        let frames = [address_of(&mut text[..]), text.len(), address_of(&mut out[..]), out.len()];
+        opened = opened.max(with_table(stack, filling, open, a1, ADDRESS, &frames, 10));
+        assert_eq!(plain, out);
+        text[header_length(&control) + 8] ^= 1;
+        opened = opened.max(with_table(stack, filling, open, a1, ADDRESS, &frames, 11));
+    }
+    [with_table(stack, filling, add, ADDRESS, a1, &[], 17), sealed, opened]
+}
+
 fn main() {
     let mut stack = Box::new(Stack([0; STACK]));
-    let mut most = [0; 4];
+    let mut most = [0; 7];
     // Two fillings: what a call writes in the lowest octet may be one of them.
     for (filling, control) in [0xa5, 0x5a].into_iter().flat_map(|filling| CONTROLS.map(|control| (filling, control))) {
         let [sealed, opened] = most_for_frames(&mut stack, filling, control);
         let [split, joined] = most_for_fragments(&mut stack, filling, control);
-        most = std::array::from_fn(|which| most[which].max([sealed, opened, split, joined][which]));
+        let [table_add, table_seal, table_open] = most_for_tables(&mut stack, filling, control);
+        let these = [sealed, opened, split, joined, table_add, table_seal, table_open];
+        most = std::array::from_fn(|which| most[which].max(these[which]));
     }
-    for (name, octets) in ["bench_ccmp_seal", "bench_ccmp_open", "bench_split", "bench_join"].into_iter().zip(most) {
+    let names = ["bench_ccmp_seal", "bench_ccmp_open", "bench_split", "bench_join", "bench_table_add", "bench_table_seal", "bench_table_open"];
+    for (name, octets) in names.into_iter().zip(most) {
         println!("{name}: {octets} octets");
     }
 }

@@ -1,4 +1,5 @@
 -- Outcomes as numbers and records from their fields, for C.
+use mathlib.Core.Bool.{true}
 use mathlib.Core.List.{List, [], _∷_}
 use Prim.Native.Nat.{ℕ}
 use lib.ListN.{getD}
@@ -6,11 +7,16 @@ use Rattle.ccm.specs.declared.Outcome.{Outcome}
 use Rattle.ccm.specs.declared.Outcome.the-variants.{Done, Refused}
 use Rattle.rules.specs.Answers.{told}
 use Rattle.rules.specs.Records.{newSender, newReceiver, withLast}
+use Rattle.rules.specs.Table.{newEntry, freshTable, put}
+use Rattle.rules.specs.Adding.{addAnswer, addNext}
+use Rattle.rules.specs.Serving.{tableSealAnswer, tableSealNext, tableSealOutput, tableOpenAnswer, tableOpenNext, tableOpenOutput}
 use Rattle.rules.specs.declared.Answer.{Answer}
 use Rattle.rules.specs.declared.Counts.{Counts}
 use Rattle.rules.specs.declared.Joiner.{Joiner}
+use Rattle.rules.specs.declared.Pairing.{Pairing}
 use Rattle.rules.specs.declared.Receiver.{Receiver}
 use Rattle.rules.specs.declared.Sender.{Sender}
+use Rattle.rules.specs.declared.Table.{Table}
 
 -- the octets written, or 2^64 - 1 for a refusal
 abbrev pub number : Outcome → ℕ
@@ -41,6 +47,30 @@ joiner held length address priority sequence fragment number =
       length = length;
       last = record { address = address; priority = priority; sequence = sequence; fragment = fragment; number = number };
     }
+
+-- a camera that may send and receive, and a table with this one
+abbrev pub camera : List ℕ → List ℕ → ℕ → List ℕ → Pairing
+camera own peer keyId key =
+    record { triple = record { own = own; peer = peer; «key_id» = keyId }; key = key; «may_send» = true; «may_receive» = true }
+
+abbrev pub oneCamera : List ℕ → List ℕ → ℕ → List ℕ → Table
+oneCamera own peer keyId key = put freshTable 0 (newEntry (camera own peer keyId key))
+
+-- what the second of two calls answers, and the output after both
+abbrev pub addedTwice : Pairing → Answer
+addedTwice x = addAnswer (addNext freshTable x) x
+
+abbrev pub sealedTwice : Table → ℕ → List ℕ → List ℕ → Answer × List ℕ
+sealedTwice t keyId f o =
+    let u = tableSealNext t keyId f o in
+    let p = tableSealOutput t keyId f o in
+    (tableSealAnswer u keyId f p, tableSealOutput u keyId f p)
+
+abbrev pub openedTwice : Table → List ℕ → List ℕ → Answer × List ℕ
+openedTwice t f o =
+    let u = tableOpenNext t f o in
+    let p = tableOpenOutput t f o in
+    (tableOpenAnswer u f p, tableOpenOutput u f p)
 
 -- four numbers, zeros after a first one that stands alone
 abbrev pub padded : List ℕ → List ℕ

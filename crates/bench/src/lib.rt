@@ -9,6 +9,7 @@ ghost use Rattle.bench.specs.Numbers.{number};
 
 mod frames; // frames.rt: fresh records, sealing and opening
 mod pictures; // pictures.rt: splitting and joining
+mod tables; // tables.rt: sealing and opening through a table
 
 #[no_mangle]
 pub extern "C" fn bench_aes_expand(key: &[u8; 16], w: &mut [u8; 176])
