@@ -30,7 +30,7 @@ pub fn new_table() -> Table
     }
 }
 
-// Whether a table is refused. The copy that this call makes of the table is given up before the next call makes one.
+// Whether a table is refused. Asked by a function of its own, the copy of the table that this takes is given up before the next is made.
 fn unsound(t: Table) -> bool
     ensures { λ r. ⌜ r ≡ not (soundTable t) ⌝ }
 {
