@@ -8,7 +8,7 @@ use borrow.Author.Tests.{le-leb}
 use Rattle.rules.specs.Limits.{mostKeyId}
 use Rattle.rules.specs.Table.{isPlace, placeOf}
 use Rattle.rules.specs.Adding.{freePlace, addPlace, addAnswer}
-use Rattle.rules.specs.Tables.{AddAnswers}
+use Rattle.rules.specs.TableDemand1.{AddAnswers}
 use Rattle.rules.specs.declared.Answer.{Answer}
 use Rattle.rules.specs.declared.Answer.the-variants.{Done, Refused}
 use Rattle.rules.specs.declared.Table.{Table}

@@ -18,7 +18,8 @@ use Rattle.rules.specs.Opening.{openedFrame, openAnswer, openOutput}
 use Rattle.rules.specs.Table.{senderOf, entryAt, soundEntry, soundTable}
 use Rattle.rules.specs.Serving.{sealTriple, sealPlace, tableSealTests, sealComes, tableSealAnswer, tableSealOutput, openTriple, openPlace, tableOpenTests, openComes, tableOpenAnswer, tableOpenOutput}
 use Rattle.rules.specs.Demand2.{Match}
-use Rattle.rules.specs.Tables.{TableSealOrder, TableOpenOrder, EntryOpens, EntrySealsBack, TableOpens, TableSealsBack}
+use Rattle.rules.specs.TableDemand1.{TableSealOrder, TableOpenOrder}
+use Rattle.rules.specs.TableDemand2.{EntryOpens, EntrySealsBack, TableOpens, TableSealsBack}
 use Rattle.rules.specs.declared.Sender.{Sender}
 use Rattle.rules.specs.declared.Answer.{Answer}
 use Rattle.rules.specs.declared.Answer.the-variants.{Done}

@@ -19,7 +19,8 @@ use Rattle.rules.specs.Table.{withReceiver, newEntry, freeEntry, freshTa
 use Rattle.rules.specs.Adding.{freePlace, addPlace, addAnswer, putIf, addNext, removeAnswer, removeNext}
 use Rattle.rules.specs.Serving.{sealPlace, sealComes, sealedAt, tableSealNext, openPlace, tableOpenTests, openComes, tableOpenAnswer, openedAt, formatCounted, tableOpenNext}
 use Rattle.rules.specs.TableCalls.{TableCall, toSeal, toOpen, toAdd, toRemove, tableAnswer, tableNext, tableRun, callAt, before, tableAnswerAt, loses}
-use Rattle.rules.specs.Tables.{uncounted, countedByTable, entryCounts, allCounts, isOpening, openingsWith, TableCounted}
+use Rattle.rules.specs.TableDemand1.{uncounted, countedByTable}
+use Rattle.rules.specs.TableCounts.{entryCounts, allCounts, isOpening, openingsWith, TableCounted}
 use Rattle.rules.specs.declared.Answer.{Answer}
 use Rattle.rules.specs.declared.Answer.the-variants.{Done, Refused}
 use Rattle.rules.specs.declared.Entry.{Entry}

@@ -20,7 +20,8 @@ use Rattle.rules.specs.Adding.{addPlace, addNext}
 use Rattle.rules.specs.Serving.{openPlace, tableOpenAnswer, tableOpenOutput}
 use Rattle.rules.specs.TableCalls.{TableCall, toOpen, toAdd, lent, tableAnswer, tableNext, tableRun, callAt, before, OctetCalls, opensAt, changes, Unchanged}
 use Rattle.rules.specs.Demand2.{Match}
-use Rattle.rules.specs.Tables.{AddedFresh, asMade, DeliversTo, AboveOpenedAt, TableOpensTo, TableReplayed, TableDelivered}
+use Rattle.rules.specs.Tables.{AddedFresh, asMade}
+use Rattle.rules.specs.TableDemand3.{DeliversTo, AboveOpenedAt, TableOpensTo, TableReplayed, TableDelivered}
 use Rattle.rules.specs.declared.Sender.{Sender}
 use Rattle.rules.specs.declared.Receiver.{Receiver}
 use Rattle.rules.specs.declared.Table.{Table}

@@ -16,7 +16,7 @@ use Rattle.rules.specs.Demand1.{oneMore}
 use Rattle.rules.specs.Table.{freeEntry, entryAt, put}
 use Rattle.rules.specs.Adding.{addTests, addAnswer, removeTests, removeAnswer}
 use Rattle.rules.specs.Serving.{sealPlace, tableSealTests, sealComes, tableSealAnswer, sealedAt, tableSealNext, tableSealOutput, openPlace, tableOpenTests, openComes, tableOpenAnswer, openedAt, formatCounted, tableOpenNext, tableOpenOutput}
-use Rattle.rules.specs.Tables.{tableSealNumbers, tableOpenNumbers, addNumbers, removeNumbers, uncounted, countedByTable, countedByEntry, TableKeeps, TableOpeningKeeps, TableDemand1}
+use Rattle.rules.specs.TableDemand1.{tableSealNumbers, tableOpenNumbers, addNumbers, removeNumbers, uncounted, countedByTable, countedByEntry, TableKeeps, TableOpeningKeeps, TableDemand1}
 use Rattle.rules.specs.declared.Answer.{Answer}
 use Rattle.rules.specs.declared.Answer.the-variants.{Done, Refused}
 use Rattle.rules.specs.declared.Entry.{Entry}

@@ -16,7 +16,9 @@ use Rattle.rules.specs.Calls.{Call, noCall, at}
 use Rattle.rules.specs.Table.{freeEntry, freshTable, entryAt, isFor, placeOf}
 use Rattle.rules.specs.Serving.{openTriple, openPlace, tableOpenTests, openComes, tableOpenAnswer, openedAt, formatCounted, tableOpenNext, tableOpenOutput}
 use Rattle.rules.specs.TableCalls.{toOpen, tableAnswer, tableNext, tableOutput, tableRun, opensAt, tableAnswerAt, tableOutputAt}
-use Rattle.rules.specs.Tables.{countedByTable, asMade, Through, TableReordered}
+use Rattle.rules.specs.Tables.{asMade}
+use Rattle.rules.specs.TableDemand1.{countedByTable}
+use Rattle.rules.specs.TableDemand3.{Through, TableReordered}
 use Rattle.rules.specs.declared.Receiver.{Receiver}
 use Rattle.rules.specs.declared.Answer.{Answer}
 use Rattle.rules.specs.declared.Table.{Table}

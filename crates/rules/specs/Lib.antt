@@ -22,4 +22,8 @@ pub mod Counts
 pub mod Numbers
 pub mod Fragments
 pub mod Tables
+pub mod TableDemand1
+pub mod TableDemand2
+pub mod TableDemand3
+pub mod TableCounts
 pub mod Examples
