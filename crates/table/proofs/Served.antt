@@ -63,10 +63,10 @@ abbrev pub Opened : Table → List ℕ → List ℕ → Answer → Table → Lis
 Opened t f o a u out = (told a ≡ told (tableOpenAnswer t f o)) × ((u ≡ tableOpenNext t f o) × (out ≡ tableOpenOutput t f o))
 
 -- the entry at place i may seal, or open
-abbrev pub maySeal : Table → ℕ → Bool
+abbrev maySeal : Table → ℕ → Bool
 maySeal t i = isPlace t i && entryAt t i .«may_send»
 
-abbrev pub mayOpen : Table → ℕ → Bool
+abbrev mayOpen : Table → ℕ → Bool
 mayOpen t i = isPlace t i && entryAt t i .«may_receive»
 
 module _ (t : Table) (keyId : ℕ) (f o : List ℕ) where

@@ -14,7 +14,7 @@ use Rattle.rules.specs.Records.{formatCount, counted}
 use Rattle.rules.specs.Answers.{told, noneApplies}
 use Rattle.rules.specs.Tests.{roomTest, extendedTest}
 use Rattle.rules.specs.Opening.{openAnswer, openNext, openOutput}
-use Rattle.rules.specs.Table.{withReceiver, entryAt, put, placeOf}
+use Rattle.rules.specs.Table.{withReceiver, put, placeOf}
 use Rattle.rules.specs.Serving.{openPlace}
 use Rattle.rules.specs.declared.Receiver.{Receiver}
 use Rattle.rules.specs.declared.Entry.{Entry}
@@ -24,8 +24,8 @@ use Rattle.ccmp.proofs.Headers.{Fields, fields-of}
 use Rattle.ccmp.proofs.Keys.{id-same}
 use Rattle.ccmp.proofs.Verdicts.{passes}
 use Rattle.table.specs.Forms.{openForms}
-use Rattle.table.proofs.Loops.{is-place, no-place, read-at}
-use Rattle.table.proofs.Served.{formed, mayOpen, open-refused, open-missed, open-served}
+use Rattle.table.proofs.Loops.{no-place, read-at, flag-at}
+use Rattle.table.proofs.Served.{formed, open-refused, open-missed, open-served}
 use borrow.Author.Needs.{needs}
 use Rattle.table.proofs.serving.open.Statement.{statement}
 use Rattle.table.proofs.serving.open.Tie as tie
@@ -68,7 +68,7 @@ peer-is : (c : tie.After-address-at2) → c .address-at2 .result ≡ address2 (F
 unfolding address2
 peer-is c = c .address-at2 .ensures
 
--- the place that is found, and the entry there
+-- the place that is found
 abbrev headed : tie.After-place-of → tie.After-header
 headed c = c .before .before .before .before .before
 
@@ -83,23 +83,6 @@ place-is c =
     let id = sym (eqb-true _ _ (id-same (F t) at (fields h .length-is) (getD (F t) (at + 3) 0 / 64) refl)) in
     c .place-of .ensures
     ∙ (λ i. placeOf (T t) (record { own = own-is (c .before .before .before) i; peer = peer-is (c .before .before) i; «key_id» = id i }))
-
-entry-is : (c : tie.Then1) (d : Entry) → let t = T (tested (c .before)) in
-    getD (t .entries) (c .before .place-of .result) d ≡ entryAt t (c .before .place-of .result)
-entry-is c d = let t = tested (c .before) in read-at (T t) (size t) (c .before .place-of .result) d (c .if1 .taken)
-
--- its flag, as it is asked
-on : (c : tie.Then2) → let found = c .before .before .before in mayOpen (T (tested found)) (found .place-of .result) ≡ true
-on c =
-    let here = c .before .before in
-    let t = tested (here .before) in
-    rw (is-place (T t) (size t) (here .before .place-of .result) (here .if1 .taken)) (ap (λ (e : Entry). e .«may_receive») (sym (entry-is here _)) ∙ c .if2 .taken)
-
-off : (c : tie.Else2) → let found = c .before .before .before in mayOpen (T (tested found)) (found .place-of .result) ≡ false
-off c =
-    let here = c .before .before in
-    let t = tested (here .before) in
-    rw (is-place (T t) (size t) (here .before .place-of .result) (here .if1 .taken)) (ap (λ (e : Entry). e .«may_receive») (sym (entry-is here _)) ∙ c .if2 .left)
 
 address-at-requires : tie.Need-address-at-requires
 address-at-requires c κs = omega (arith, sizes (c .before))
@@ -134,11 +117,11 @@ returns-2 c =
     let f = F (tested found) in
     let o = O (tested found) in
     let i = found .place-of .result in
-    let same = entry-is here _ in
+    let same = read-at t (size (tested found)) i _ (here .if1 .taken) in
     let receiver = ap (λ (e : Entry). e .receiver) same in
     let e = done .«open» .ensures in
     open-served t f o i (place-is found) (passed (headed found) .1) (done .«open» .result .answer) _ _
-    (on may)
+    (flag-at t (size (tested found)) i (λ e. e .«may_receive») _ true (here .if1 .taken) (may .if2 .taken))
     (e .0 ∙ ap (λ (r : Receiver). told (openAnswer r f o)) receiver)
     (ap (put t i) (ap₂ withReceiver same (e .1 .0 ∙ ap (λ (r : Receiver). openNext r f o) receiver)))
     (e .1 .1 ∙ ap (λ (r : Receiver). openOutput r f o) receiver)
@@ -147,7 +130,8 @@ returns-3 : tie.Need-returns-3
 returns-3 c =
     let found = c .before .before .before in
     let t = tested found in
-    open-missed (T t) (F t) (O t) _ (place-is found) (passed (headed found) .1) (off c)
+    open-missed (T t) (F t) (O t) _ (place-is found) (passed (headed found) .1)
+    (flag-at (T t) (size t) _ (λ e. e .«may_receive») _ false (c .before .before .if1 .taken) (c .if2 .left))
 
 returns-4 : tie.Need-returns-4
 returns-4 c =

@@ -4,7 +4,7 @@ use mathlib.Core.Bool.{true, false}
 use mathlib.Core.List.{List}
 use Prim.Native.Nat.{ℕ, _+_, _≤_}
 use native.Mathlib.Omega.{arith}
-use lib.ListN.{length, getD, length-map}
+use lib.ListN.{length, length-map}
 use Rattle.rules.specs.Limits.{tableEntries, leastHeader, leastBody, mostBody}
 use Rattle.rules.specs.Header.{address1, address2, headerOf}
 use Rattle.rules.specs.Mode.{added}
@@ -14,12 +14,11 @@ use Rattle.rules.specs.Sealing.{sealAnswer, sealNext, sealOutput}
 use Rattle.rules.specs.Table.{senderOf, withSender, entryAt, put, placeOf}
 use Rattle.rules.specs.Serving.{sealPlace}
 use Rattle.rules.specs.declared.Sender.{Sender}
-use Rattle.rules.specs.declared.Entry.{Entry}
 use Rattle.rules.specs.declared.Table.{Table}
 use Rattle.ccmp.proofs.Verdicts.{passes}
 use Rattle.table.specs.Forms.{sealForms}
-use Rattle.table.proofs.Loops.{is-place, no-place, read-at}
-use Rattle.table.proofs.Served.{formed, maySeal, seal-refused, seal-missed, seal-served}
+use Rattle.table.proofs.Loops.{no-place, read-at, flag-at}
+use Rattle.table.proofs.Served.{formed, seal-refused, seal-missed, seal-served}
 use borrow.Author.Needs.{needs}
 use Rattle.table.proofs.serving.seal.Statement.{statement}
 use Rattle.table.proofs.serving.seal.Tie as tie
@@ -56,7 +55,7 @@ peer-is : (c : tie.After-address-at2) → c .address-at2 .result ≡ address1 (F
 unfolding address1
 peer-is c = c .address-at2 .ensures
 
--- the place that is found, and the entry there
+-- the place that is found
 abbrev tested : tie.After-place-of → tie.After-seal-tests
 tested c = c .before .before .before .before .before
 
@@ -65,23 +64,6 @@ place-is c =
     let t = tested c in
     c .place-of .ensures
     ∙ (λ i. placeOf (T t) (record { own = own-is (c .before .before) i; peer = peer-is (c .before) i; «key_id» = start t .args .key-id }))
-
-entry-is : (c : tie.Then1) (d : Entry) → let t = T (tested (c .before)) in
-    getD (t .entries) (c .before .place-of .result) d ≡ entryAt t (c .before .place-of .result)
-entry-is c d = let t = tested (c .before) in read-at (T t) (size t) (c .before .place-of .result) d (c .if1 .taken)
-
--- its flag, as it is asked
-on : (c : tie.Then2) → let found = c .before .before .before in maySeal (T (tested found)) (found .place-of .result) ≡ true
-on c =
-    let here = c .before .before in
-    let t = tested (here .before) in
-    rw (is-place (T t) (size t) (here .before .place-of .result) (here .if1 .taken)) (ap (λ (e : Entry). e .«may_send») (sym (entry-is here _)) ∙ c .if2 .taken)
-
-off : (c : tie.Else2) → let found = c .before .before .before in maySeal (T (tested found)) (found .place-of .result) ≡ false
-off c =
-    let here = c .before .before in
-    let t = tested (here .before) in
-    rw (is-place (T t) (size t) (here .before .place-of .result) (here .if1 .taken)) (ap (λ (e : Entry). e .«may_send») (sym (entry-is here _)) ∙ c .if2 .left)
 
 address-at-requires : tie.Need-address-at-requires
 address-at-requires c κs = omega (arith, long c)
@@ -104,11 +86,11 @@ returns-2 c =
     let f = F (tested found) in
     let o = O (tested found) in
     let i = found .place-of .result in
-    let same = entry-is here _ in
+    let same = read-at t (size (tested found)) i _ (here .if1 .taken) in
     let sender : done .before .before .sender-of .result ≡ senderOf (entryAt t i) = done .before .before .sender-of .ensures ∙ ap senderOf same in
     let e = done .seal .ensures in
     seal-served t _ f o i (place-is found) (passed (found .before .before .before)) (done .seal .result .answer) _ _
-    (on may)
+    (flag-at t (size (tested found)) i (λ e. e .«may_send») _ true (here .if1 .taken) (may .if2 .taken))
     (e .0 ∙ ap (λ (s : Sender). told (sealAnswer s f o)) sender)
     (ap (put t i) (ap₂ withSender same (e .1 .0 ∙ ap (λ (s : Sender). sealNext s f o) sender)))
     (e .1 .1 ∙ ap (λ (s : Sender). sealOutput s f o) sender)
@@ -117,7 +99,8 @@ returns-3 : tie.Need-returns-3
 returns-3 c =
     let found = c .before .before .before in
     let t = tested found in
-    seal-missed (T t) _ (F t) (O t) _ (place-is found) (passed (found .before .before .before)) (off c)
+    seal-missed (T t) _ (F t) (O t) _ (place-is found) (passed (found .before .before .before))
+    (flag-at (T t) (size t) _ (λ e. e .«may_send») _ false (c .before .before .if1 .taken) (c .if2 .left))
 
 returns-4 : tie.Need-returns-4
 returns-4 c =
