@@ -7,7 +7,7 @@ import pathlib
 import re
 import sys
 
-ROW = re.compile(r"frame: (\d+) octets (sealed|opened) +([\d.]+) ns +([\d.]+) ns")
+ROW = re.compile(r"frame: (\d+) octets (sealed|opened)(?:, size 1)? +([\d.]+) ns +([\d.]+) ns")
 COLOURS = {"proved": "#1f5fa8", "second": "#9aa5b1"}
 WIDTH, HEIGHT, LEFT, TOP, BOTTOM = 680, 340, 62, 52, 272
 BAR, STEP = 36, 20  # a bar's width in pixels, and the distance of the grid's lines in MB/s

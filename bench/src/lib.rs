@@ -2,6 +2,7 @@
 
 use second::fragment::Joiner;
 use second::frame::{Receiver, Sender};
+use second::window::Window;
 
 /// A slice passes as a pointer and a length.
 pub mod exported {
@@ -16,15 +17,16 @@ pub mod exported {
         ) -> u64;
         pub fn bench_fresh_sender(key: &mut [u8; 16], key_id: &mut u8, address: &mut [u8; 6], last: &mut u64, answer: &mut [u64; 4]);
         pub fn bench_fresh_receiver(
-            key: &mut [u8; 16], key_id: &mut u8, peer: &mut [u8; 6], replay: &mut [u64; 16], counts: &mut [u32; 4], answer: &mut [u64; 4],
+            key: &mut [u8; 16], key_id: &mut u8, peer: &mut [u8; 6], size: &mut u8, replay: &mut [u64; 16], seen: &mut [u16; 16],
+            counts: &mut [u32; 4], answer: &mut [u64; 4],
         );
         pub fn bench_ccmp_seal(
             key: &mut [u8; 16], key_id: &mut u8, address: &mut [u8; 6], last: &mut u64, answer: &mut [u64; 4], frame: *const u8, frame_len: usize,
             out: *mut u8, out_len: usize,
         );
         pub fn bench_ccmp_open(
-            key: &mut [u8; 16], key_id: &mut u8, peer: &mut [u8; 6], replay: &mut [u64; 16], counts: &mut [u32; 4], answer: &mut [u64; 4],
-            frame: *const u8, frame_len: usize, out: *mut u8, out_len: usize,
+            key: &mut [u8; 16], key_id: &mut u8, peer: &mut [u8; 6], size: &mut u8, replay: &mut [u64; 16], seen: &mut [u16; 16],
+            counts: &mut [u32; 4], answer: &mut [u64; 4], frame: *const u8, frame_len: usize, out: *mut u8, out_len: usize,
         );
         pub fn bench_split(
             key: &mut [u8; 16], key_id: &mut u8, address: &mut [u8; 6], last: &mut u64, answer: &mut [u64; 4], size: usize, frame: *const u8,
@@ -80,8 +82,42 @@ pub type Told = [u64; 4];
 // What the fields of an answer hold before a call.
 const UNTOLD: Told = [u64::MAX; 4];
 
-fn set_counts(r: &mut Receiver, counts: [u32; 4]) {
-    [r.format_errors, r.replays, r.decrypt_errors, r.opened] = counts;
+/// A receiver, field by field. Bit i of `seen[p]` stands for the number `replay[p]` less i.
+#[derive(Clone)]
+pub struct Record {
+    pub key: [u8; 16],
+    pub key_id: u8,
+    pub peer: [u8; 6],
+    pub size: u8,
+    pub replay: [u64; 16],
+    pub seen: [u16; 16],
+    pub counts: [u32; 4],
+}
+
+/// The window with this greatest number and these bits.
+pub fn window(greatest: u64, bits: u16) -> Window {
+    let set = (0..16).rev().filter(|bit| bits >> bit & 1 != 0);
+    Window { greatest, opened: set.map(|bit| i128::from(greatest) - bit).collect() }
+}
+
+/// The bits of a window, which holds no number above its greatest nor one 16 or more below.
+pub fn bits(window: &Window) -> u16 {
+    window.opened.iter().fold(0, |bits, number| bits | 1 << (i128::from(window.greatest) - number))
+}
+
+impl From<&Receiver> for Record {
+    fn from(r: &Receiver) -> Self {
+        let (replay, seen) = (r.windows.each_ref().map(|window| window.greatest), r.windows.each_ref().map(bits));
+        Record { key: r.key, key_id: r.key_id, peer: r.peer, size: r.window_size, replay, seen, counts: r.counts() }
+    }
+}
+
+impl From<&Record> for Receiver {
+    fn from(r: &Record) -> Self {
+        let windows = std::array::from_fn(|priority| window(r.replay[priority], r.seen[priority]));
+        let [format_errors, replays, decrypt_errors, opened] = r.counts;
+        Receiver { key: r.key, key_id: r.key_id, peer: r.peer, window_size: r.size, windows, format_errors, replays, decrypt_errors, opened }
+    }
 }
 
 /// Makes a sender with the key, key ID and address that are in `s`.
@@ -91,11 +127,12 @@ pub fn fresh_sender(s: &mut Sender) -> Told {
     told
 }
 
-/// Makes a receiver with the key, key ID and address that are in `r`.
-pub fn fresh_receiver(r: &mut Receiver) -> Told {
-    let (mut counts, mut told) = (r.counts(), UNTOLD);
-    unsafe { exported::bench_fresh_receiver(&mut r.key, &mut r.key_id, &mut r.peer, &mut r.replay_counters, &mut counts, &mut told) };
-    set_counts(r, counts);
+/// Makes a receiver with the key, key ID, address and size that are in `r`.
+pub fn fresh_receiver(r: &mut Record) -> Told {
+    let mut told = UNTOLD;
+    unsafe {
+        exported::bench_fresh_receiver(&mut r.key, &mut r.key_id, &mut r.peer, &mut r.size, &mut r.replay, &mut r.seen, &mut r.counts, &mut told)
+    };
     told
 }
 
@@ -109,14 +146,14 @@ pub fn seal(s: &mut Sender, frame: &[u8], out: &mut [u8]) -> Told {
     told
 }
 
-pub fn open(r: &mut Receiver, frame: &[u8], out: &mut [u8]) -> Told {
-    let (mut counts, mut told, into) = (r.counts(), UNTOLD, out.as_mut_ptr());
+pub fn open(r: &mut Record, frame: &[u8], out: &mut [u8]) -> Told {
+    let (mut told, into) = (UNTOLD, out.as_mut_ptr());
     unsafe {
         exported::bench_ccmp_open(
-            &mut r.key, &mut r.key_id, &mut r.peer, &mut r.replay_counters, &mut counts, &mut told, frame.as_ptr(), frame.len(), into, out.len(),
+            &mut r.key, &mut r.key_id, &mut r.peer, &mut r.size, &mut r.replay, &mut r.seen, &mut r.counts, &mut told, frame.as_ptr(),
+            frame.len(), into, out.len(),
         )
     };
-    set_counts(r, counts);
     told
 }
 

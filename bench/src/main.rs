@@ -4,6 +4,7 @@ use second::aes::Aes128;
 use second::ccm::Ccm;
 use second::fragment::{Joiner, MAX_FRAGMENTS, MAX_MESSAGE};
 use second::frame::{Receiver, Sender, ADDED};
+use second::window::{Window, SIZES};
 use std::hint::black_box;
 use std::time::Instant;
 
@@ -14,6 +15,10 @@ const KEY_ID: u8 = 2;
 const ADDRESS: [u8; 6] = [2, 0, 0, 0, 0, 1];
 const LAST: u64 = 0x0102_0304_0506;
 const HEADER: usize = 26;
+
+/// Frames sealed one after another, and how often they are opened in a run, each time by a record as it was before the first of them.
+const ROW: usize = 64;
+const ROWS: usize = 32;
 
 /// Messages split and joined in a run, the size of their fragments, and the length of a sealed one.
 const PICTURES: usize = 1_000;
@@ -97,11 +102,11 @@ fn ccm(length: usize) {
     report(&format!("ccm: {length} octets opened"), MESSAGES, times);
 }
 
-/// A sender and a receiver as they are before each call.
-fn records() -> (Sender, Receiver) {
+/// A sender and a receiver as they are before each call, or each row of them.
+fn records(size: u8) -> (Sender, Receiver) {
     let key: [u8; 16] = std::array::from_fn(|i| i as u8);
     let sender = Sender { key, key_id: KEY_ID, address: ADDRESS, last_number: LAST };
-    (sender, Receiver { replay_counters: [LAST; 16], ..Receiver::fresh(key, KEY_ID, ADDRESS).1 })
+    (sender, Receiver { windows: std::array::from_fn(|_| Window::at(LAST)), ..Receiver::fresh(key, KEY_ID, ADDRESS, size).1 })
 }
 
 /// A QoS data frame with so many octets after its header.
@@ -115,7 +120,7 @@ fn plain(length: usize) -> Vec<u8> {
 /// Frames with a body of this length, the key expanded for each.
 fn frame(length: usize) {
     const FRAMES: usize = 2_000;
-    let (sender, receiver) = records();
+    let (sender, _) = records(1);
     let plain = plain(length);
     let (mut ours, mut theirs) = (vec![0; plain.len() + ADDED], vec![0; plain.len() + ADDED]);
 
@@ -125,20 +130,36 @@ fn frame(length: usize) {
     );
     assert_eq!(ours, theirs);
     report(&format!("frame: {length} octets sealed"), FRAMES, times);
+    SIZES.into_iter().for_each(|size| opening(&plain, size));
+}
 
-    let sealed = ours.clone();
+/// A row of these frames, in order.
+fn opening(plain: &[u8], size: u8) {
+    let (mut sender, receiver) = records(size);
+    let record = proved::Record::from(&receiver);
+    let mut row = vec![vec![0; plain.len() + ADDED]; ROW];
+    row.iter_mut().for_each(|sealed| assert!(sender.seal(plain, sealed).is_ok()));
+    let (mut ours, mut theirs) = (vec![0; plain.len()], vec![0; plain.len()]);
+
     let times = compare(
-        || (0..FRAMES).for_each(|_| assert_eq!(proved::open(&mut black_box(&receiver).clone(), &sealed, &mut ours)[0], 0)),
-        || (0..FRAMES).for_each(|_| assert!(black_box(&receiver).clone().open(&sealed, &mut theirs).is_ok())),
+        || {
+            for mut record in (0..ROWS).map(|_| black_box(&record).clone()) {
+                row.iter().for_each(|sealed| assert_eq!(proved::open(&mut record, sealed, &mut ours)[0], 0));
+            }
+        },
+        || {
+            for mut receiver in (0..ROWS).map(|_| black_box(&receiver).clone()) {
+                row.iter().for_each(|sealed| assert!(receiver.open(sealed, &mut theirs).is_ok()));
+            }
+        },
     );
-    assert_eq!(ours[..plain.len()], plain);
-    assert_eq!(theirs[..plain.len()], plain);
-    report(&format!("frame: {length} octets opened"), FRAMES, times);
+    assert_eq!([&ours, &theirs], [plain; 2]);
+    report(&format!("frame: {} octets opened, size {size}", plain.len() - HEADER), ROWS * ROW, times);
 }
 
 /// The greatest message as 16 fragments: cut and sealed in one call, and its plain fragments sealed one by one.
 fn splitting(message: &[u8], fragments: &[(Vec<u8>, u64)]) {
-    let (sender, _) = records();
+    let (sender, _) = records(1);
     let [mut ours, mut theirs, mut our_frames, mut their_frames] = [(); 4].map(|()| vec![0; MAX_FRAGMENTS * SEALED]);
     let [split, their_split, sealed, their_sealed] = least([
         &mut || (0..PICTURES).for_each(|_| assert_eq!(proved::split(&mut black_box(&sender).clone(), message, SIZE, &mut ours)[0], 0)),
@@ -176,7 +197,7 @@ fn joining(message: &[u8], fragments: &[(Vec<u8>, u64)]) {
 }
 
 fn fragments() {
-    let ((mut sender, mut receiver), message) = (records(), plain(MAX_MESSAGE));
+    let ((mut sender, mut receiver), message) = (records(1), plain(MAX_MESSAGE));
     let mut sealed = vec![0; MAX_FRAGMENTS * SEALED];
     assert!(sender.split(&message, SIZE, &mut sealed).is_ok());
     let opened = sealed.chunks(SEALED).map(|fragment| {

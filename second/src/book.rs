@@ -7,6 +7,8 @@ use std::io::{self, BufRead, BufReader, Read, Write};
 const LONGEST: usize = 4_800;
 /// The most octets of a frame, which follows a word of four octets and a tab, and what sealing adds.
 const ROOM: usize = (LONGEST - 5) / 2 + ADDED;
+/// Of the receiver's windows.
+const WINDOW_SIZE: u8 = 1;
 /// Octets read or written at a time.
 const PIECE: usize = 1 << 16;
 
@@ -94,7 +96,7 @@ impl Book {
         };
         let (key, key_id) = (decode_exactly(key)?, digit - b'0');
         let (_, sender) = Sender::fresh(key, key_id, decode_exactly(own)?);
-        let (_, receiver) = Receiver::fresh(key, key_id, decode_exactly(peer)?);
+        let (_, receiver) = Receiver::fresh(key, key_id, decode_exactly(peer)?, WINDOW_SIZE);
         Some(Book { sender, receiver, frame: [0; ROOM], result: [0; ROOM] })
     }
 

@@ -178,7 +178,7 @@ mod tests {
     fn fragments(sender: &mut Sender, frame: &[u8], size: usize) -> Vec<(Vec<u8>, u64)> {
         let mut out = [0; ROOM];
         let done = sender.split(frame, size, &mut out).unwrap();
-        let mut receiver = Receiver::fresh(KEY, 2, ADDRESS).1;
+        let mut receiver = Receiver::fresh(KEY, 2, ADDRESS, 1).1;
         let opened = out[..done.written].chunks(header_length(frame) + size + ADDED).map(|sealed| {
             let mut plain = vec![0; sealed.len() - ADDED];
             let done = receiver.open(sealed, &mut plain).unwrap();

@@ -1,6 +1,7 @@
 //! The frame rules: a sender that seals plain 802.11 data frames and a receiver that opens them.
 
 use crate::ccm::Ccm;
+use crate::window::{Window, SIZES};
 
 /// The greatest packet number.
 pub const MAX_NUMBER: u64 = (1 << 48) - 1;
@@ -37,8 +38,9 @@ pub struct Receiver {
     pub key: [u8; 16],
     pub key_id: u8,
     pub peer: [u8; 6],
+    pub window_size: u8,
     /// One for each priority.
-    pub replay_counters: [u64; 16],
+    pub windows: [Window; 16],
     pub format_errors: u32,
     pub replays: u32,
     pub decrypt_errors: u32,
@@ -203,11 +205,11 @@ impl Sender {
 }
 
 impl Receiver {
-    pub fn fresh(key: [u8; 16], key_id: u8, peer: [u8; 6]) -> (Answer, Self) {
-        if key_id > 3 {
+    pub fn fresh(key: [u8; 16], key_id: u8, peer: [u8; 6], window_size: u8) -> (Answer, Self) {
+        if key_id > 3 || !SIZES.contains(&window_size) {
             return (Err(Refusal::Record), Self::default());
         }
-        (Ok(Done::default()), Receiver { key, key_id, peer, ..Self::default() })
+        (Ok(Done::default()), Receiver { key, key_id, peer, window_size, ..Self::default() })
     }
 
     /// Format errors, replays, decrypt errors, opened.
@@ -216,7 +218,7 @@ impl Receiver {
     }
 
     pub(crate) fn is_sound(&self) -> bool {
-        self.key_id <= 3 && self.replay_counters.iter().all(|&counter| counter <= MAX_NUMBER)
+        self.key_id <= 3 && SIZES.contains(&self.window_size) && self.windows.iter().all(|window| window.is_sound(self.window_size))
     }
 
     /// Writes the plain frame to the front of `out`.
@@ -237,7 +239,7 @@ impl Receiver {
         let (key_octet, number, priority) = (ccmp_header[3], number_in(ccmp_header), header.priority());
         require(key_octet & EXT_IV != 0, Refusal::Extended)?;
         require(key_octet >> 6 == self.key_id, Refusal::KeyId)?;
-        require(number > self.replay_counters[usize::from(priority)], Refusal::Replay)?;
+        require(self.windows[usize::from(priority)].takes(number, self.window_size), Refusal::Replay)?;
 
         // Apart from `out`, which a refusal leaves as it was: CCM clears the room that it was lent where the MIC is wrong.
         let mut body = [0; MAX_BODY];
@@ -250,11 +252,11 @@ impl Receiver {
         Ok(Done { number, priority, written })
     }
 
-    /// Moves the replay counter and the counts by an answer.
+    /// Moves the window and the counts by an answer.
     fn record(&mut self, answer: Answer) {
         let count = match answer {
             Ok(done) => {
-                self.replay_counters[usize::from(done.priority)] = done.number;
+                self.windows[usize::from(done.priority)].hold(done.number, self.window_size);
                 &mut self.opened
             }
             Err(Refusal::Record | Refusal::Room) => return,
@@ -280,7 +282,11 @@ mod tests {
     }
 
     fn receiver() -> Receiver {
-        Receiver::fresh(KEY, 2, ADDRESS).1
+        receiver_of_size(1)
+    }
+
+    fn receiver_of_size(size: u8) -> Receiver {
+        Receiver::fresh(KEY, 2, ADDRESS, size).1
     }
 
     /// Of this Frame Control, from ADDRESS, the other header octets 1 upward, and a body of zeros.
@@ -296,6 +302,19 @@ mod tests {
         let mut out = vec![0; frame.len() + ADDED];
         assert_eq!(sender.seal(frame, &mut out).map(|done| done.written), Ok(out.len()));
         out
+    }
+
+    /// A sealed frame of priority 8 with this number, which may be 0, and then its code is wrong.
+    fn numbered(number: u64) -> Vec<u8> {
+        let mut frame = plain([0x88, 0], 5);
+        frame[24] = 8;
+        let mut text = sealed(&mut Sender { last_number: number.saturating_sub(1), ..sender() }, &frame);
+        text[26..34].copy_from_slice(&ccmp_header(number, 2));
+        text
+    }
+
+    fn greatest(receiver: &Receiver) -> [u64; 16] {
+        receiver.windows.each_ref().map(|window| window.greatest)
     }
 
     fn refused(control: [u8; 2]) -> Option<Refusal> {
@@ -359,7 +378,7 @@ mod tests {
         assert_eq!(sealed(&mut sender, &frame), expected);
         let mut out = [0; 44];
         let done = Done { number: 0xb503_9776_e70c, priority: 0, written: 44 };
-        assert_eq!(Receiver::fresh(key, 0, address).1.open(&expected, &mut out), Ok(done));
+        assert_eq!(Receiver::fresh(key, 0, address, 1).1.open(&expected, &mut out), Ok(done));
         assert_eq!(out[..], frame);
     }
 
@@ -425,7 +444,7 @@ mod tests {
             }
             let mut frame = sealed(&mut sender, &frame);
             frame[1] ^= ORDER;
-            receiver.replay_counters = [counter; 16];
+            receiver.windows = [(); 16].map(|()| Window::at(counter));
             receiver.open(&frame, &mut [0; ROOM])
         };
         for control in [[0x88, 0x00], [0x88, 0x03], [0x88, 0x80], [0x88, 0x83]] {
@@ -463,7 +482,7 @@ mod tests {
     fn replays() {
         let (mut sender, mut receiver) = (sender(), receiver());
         let mut frame = plain([0x88, 0], 5);
-        (receiver.replay_counters[8], sender.last_number) = (7, 6);
+        (receiver.windows[8], sender.last_number) = (Window::at(7), 6);
         frame[24] = 8;
         let (seven, eight) = (sealed(&mut sender, &frame), sealed(&mut sender, &frame));
         let mut zero = seven.clone();
@@ -472,7 +491,87 @@ mod tests {
         assert_eq!(answers, [Some(Refusal::Replay), None, Some(Refusal::Replay), Some(Refusal::Replay), Some(Refusal::Replay)]);
         zero[24] = 0;
         assert_eq!(receiver.open(&zero, &mut [0; 31]), Err(Refusal::Replay));
-        assert_eq!((receiver.replays, receiver.opened, receiver.replay_counters.iter().sum()), (5, 1, 8));
+        assert_eq!((receiver.replays, receiver.opened, greatest(&receiver).iter().sum()), (5, 1, 8));
+    }
+
+    /// The answers to frames with these numbers, in priority 8.
+    fn answers<const N: usize>(receiver: &mut Receiver, numbers: [u64; N]) -> [Option<Refusal>; N] {
+        numbers.map(|number| receiver.open(&numbered(number), &mut [0; 31]).err())
+    }
+
+    // g - n of 0, 1, 14, 15 and 16, and again.
+    #[test]
+    fn late_by_so_much() {
+        for greatest in [17, 1_000, MAX_NUMBER] {
+            let numbers = [0, 1, 14, 15, 16].map(|below| greatest - below);
+            for (size, late) in [(1, Some(Refusal::Replay)), (16, None)] {
+                let mut receiver = receiver_of_size(size);
+                receiver.windows[8] = Window::at(greatest);
+                assert_eq!(answers(&mut receiver, numbers), [Some(Refusal::Replay), late, late, late, Some(Refusal::Replay)]);
+                let before = receiver.windows.clone();
+                assert_eq!(answers(&mut receiver, numbers), [Some(Refusal::Replay); 5]);
+                assert_eq!((self::greatest(&receiver)[8], &receiver.windows), (greatest, &before));
+                assert_eq!([receiver.opened, receiver.replays], if size == 1 { [0, 10] } else { [3, 7] });
+            }
+        }
+    }
+
+    #[test]
+    fn jumps() {
+        for to in [1, 15, 16, 17, MAX_NUMBER - 40].map(|jump| 40 + jump) {
+            let mut receiver = receiver_of_size(16);
+            receiver.windows[8] = Window { greatest: 40, opened: vec![38, 40] };
+            assert_eq!(answers(&mut receiver, [to, to, 38, 40]), [None, Some(Refusal::Replay), Some(Refusal::Replay), Some(Refusal::Replay)]);
+            // What lies between is taken once where it is not too far below.
+            let near = |number: u64| (to - number >= 16).then_some(Refusal::Replay);
+            assert_eq!(answers(&mut receiver, [39, 39, 37, 37]), [near(39), Some(Refusal::Replay), near(37), Some(Refusal::Replay)]);
+            assert_eq!(answers(&mut receiver, [to - 16, to - 11, to]), [Some(Refusal::Replay), None, Some(Refusal::Replay)]);
+            assert_eq!(greatest(&receiver)[8], to);
+        }
+    }
+
+    // The greatest number from 0 to 16, so that 0 is within the window or just below it.
+    #[test]
+    fn number_0() {
+        for (greatest, size) in (0..=16).flat_map(|greatest| SIZES.map(|size| (greatest, size))) {
+            let mut receiver = receiver_of_size(size);
+            receiver.windows[8] = Window::at(greatest);
+            let before = receiver.windows.clone();
+            assert_eq!(answers(&mut receiver, [0, 0]), [Some(Refusal::Replay); 2]);
+            assert_eq!((receiver.windows, receiver.replays), (before, 2));
+        }
+    }
+
+    // A forged frame that would be taken late, or move the greatest number, keeps nothing from the whole one.
+    #[test]
+    fn forged_in_the_window() {
+        let mut receiver = receiver_of_size(16);
+        receiver.windows[8] = Window::at(40);
+        for number in [26, 39, 41, 55, MAX_NUMBER] {
+            let mut forged = numbered(number);
+            *forged.last_mut().unwrap() ^= 1;
+            let before = receiver.windows.clone();
+            assert_eq!(receiver.open(&forged, &mut [0; 31]), Err(Refusal::Integrity));
+            assert_eq!(receiver.open(&numbered(number), &mut [0; 30]), Err(Refusal::Room));
+            assert_eq!(receiver.windows, before);
+            assert_eq!(answers(&mut receiver, [number, number]), [None, Some(Refusal::Replay)]);
+        }
+        assert_eq!(receiver.counts(), [0, 5, 5, 5]);
+    }
+
+    #[test]
+    fn a_window_for_each_priority() {
+        let mut receiver = receiver_of_size(16);
+        let mut frame = plain([0x88, 0], 5);
+        let (mut expected, priorities) = (Receiver::default().windows, [0, 7, 8, 15]);
+        priorities.iter().for_each(|&priority| expected[priority] = Window { greatest: 20, opened: vec![10, 20] });
+        for (number, priority) in [20, 10, 20, 10].into_iter().flat_map(|number| priorities.map(|priority| (number, priority))) {
+            frame[24] = priority as u8;
+            let text = sealed(&mut Sender { last_number: number - 1, ..sender() }, &frame);
+            let again = receiver.windows == expected;
+            assert_eq!(receiver.open(&text, &mut [0; 31]).err(), again.then_some(Refusal::Replay));
+        }
+        assert_eq!((receiver.counts(), receiver.windows), ([0, 8, 0, 8], expected));
     }
 
     #[test]
@@ -496,7 +595,7 @@ mod tests {
             assert_eq!(receiver.open(&frame, &mut out), Err(refusal));
         }
         assert_eq!(receiver.open(&good, &mut out[..34]), Err(Refusal::Room));
-        assert_eq!((out, receiver.replay_counters), ([0xaa; 40], [0; 16]));
+        assert_eq!((out, receiver.windows.clone()), ([0xaa; 40], Receiver::default().windows));
         receiver.opened = u32::MAX;
         // Octet 2 of the CCMP header, the low bits of the key octet, and Duration are free.
         let mut frame = changed(34, 0xff);
@@ -510,10 +609,49 @@ mod tests {
     #[test]
     fn fresh_records() {
         assert_eq!(Sender::fresh(KEY, 4, ADDRESS), (Err(Refusal::Record), Sender::default()));
-        assert_eq!(Receiver::fresh(KEY, 4, ADDRESS), (Err(Refusal::Record), Receiver::default()));
-        let mut unsound = receiver();
-        unsound.replay_counters[15] = MAX_NUMBER + 1;
-        assert_eq!(unsound.open(&[], &mut []), Err(Refusal::Record));
-        assert_eq!(unsound.format_errors, 0);
+        for (key_id, size) in [(4, 1), (4, 16), (255, 16), (2, 0), (2, 2), (2, 15), (2, 17), (2, 255), (4, 0)] {
+            assert_eq!(Receiver::fresh(KEY, key_id, ADDRESS, size), (Err(Refusal::Record), Receiver::default()));
+        }
+        for size in SIZES {
+            let fresh = Receiver { key: KEY, key_id: 2, peer: ADDRESS, window_size: size, ..Receiver::default() };
+            assert_eq!(Receiver::fresh(KEY, 2, ADDRESS, size), (Ok(Done::default()), fresh));
+        }
+    }
+
+    /// The answer to a frame that is good for a sound one. One that isn't sound answers 1 to any frame and stays as it was.
+    fn refused_by(mut receiver: Receiver) -> Option<Refusal> {
+        let before = receiver.clone();
+        let refusal = receiver.open(&numbered(100), &mut [0; 31]).err();
+        if refusal == Some(Refusal::Record) {
+            assert_eq!((receiver.open(&[], &mut []).err(), receiver), (refusal, before));
+        }
+        refusal
+    }
+
+    #[test]
+    fn receivers_that_are_not_sound() {
+        assert_eq!([refused_by(Receiver::default()), refused_by(Receiver { key_id: 4, ..receiver() })], [Some(Refusal::Record); 2]);
+        for size in [0, 2, 15, 17, 255] {
+            assert_eq!(refused_by(Receiver { window_size: size, ..receiver() }), Some(Refusal::Record));
+        }
+        // The windows that size 16 takes, and whether size 1 does too.
+        let sound = [(0, &[][..], true), (90, &[90], true), (90, &[75, 90], false), (90, &[89, 90], false), (16, &[1, 16], false)];
+        // 0 or less, the greatest missing, and a greatest that is no packet number.
+        let zero_or_less: [(u64, &[i128]); 5] = [(0, &[0]), (0, &[-15]), (15, &[0, 15]), (1, &[-14, 1]), (3, &[-1])];
+        let missing: [(u64, &[i128]); 4] = [(1, &[]), (90, &[]), (90, &[89]), (90, &[75, 89])];
+        let beyond: [(u64, &[i128]); 3] = [(1 << 48, &[1 << 48]), (1 << 48, &[]), (u64::MAX, &[u64::MAX as i128])];
+        for (priority, size) in (0..16).flat_map(|priority| SIZES.map(|size| (priority, size))) {
+            let with = |greatest: u64, opened: &[i128]| {
+                let mut receiver = receiver_of_size(size);
+                receiver.windows[priority] = Window { greatest, opened: opened.to_vec() };
+                refused_by(receiver)
+            };
+            for (greatest, opened, at_size_1) in sound {
+                assert_eq!(with(greatest, opened), (size == 1 && !at_size_1).then_some(Refusal::Record));
+            }
+            for &(greatest, opened) in zero_or_less.iter().chain(&missing).chain(&beyond) {
+                assert_eq!(with(greatest, opened), Some(Refusal::Record));
+            }
+        }
     }
 }

@@ -9,3 +9,4 @@ pub mod fragment;
 pub mod frame;
 pub mod sample;
 pub mod table;
+pub mod window;

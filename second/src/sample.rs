@@ -114,7 +114,8 @@ impl Random {
     }
 }
 
-fn set_number(ccmp_header: &mut [u8], number: u64) {
+/// Puts a packet number into a CCMP header.
+pub fn set_number(ccmp_header: &mut [u8], number: u64) {
     for (octet, at) in number.to_le_bytes().into_iter().zip([0, 1, 4, 5, 6, 7]) {
         ccmp_header[at] = octet;
     }

@@ -2,6 +2,7 @@
 //! own.
 
 use crate::frame::{require, Answer, Done, Header, Receiver, Refusal, Sender, ADDED, EXT_IV, MAX_BODY};
+use crate::window::SIZES;
 
 /// The entries of a table, in use or free.
 pub const ENTRIES: usize = 16;
@@ -21,6 +22,8 @@ pub struct Pairing {
     pub key: [u8; 16],
     pub may_send: bool,
     pub may_receive: bool,
+    /// Of the windows.
+    pub size: u8,
 }
 
 #[derive(Clone, Debug, Default, PartialEq, Eq)]
@@ -134,12 +137,12 @@ impl Table {
 
     /// Makes an entry fresh: the one of this triple, or else the first that is free.
     pub fn add(&mut self, pairing: &Pairing) -> Answer {
-        let Pairing { triple, key, may_send, may_receive } = *pairing;
-        require(self.is_sound() && triple.key_id <= 3, Refusal::Record)?;
+        let Pairing { triple, key, may_send, may_receive, size } = *pairing;
+        require(self.is_sound() && triple.key_id <= 3 && SIZES.contains(&size), Refusal::Record)?;
         require(self.in_use().all(|entry| entry.receiver.key != key), Refusal::Taken)?;
         let present = self.entries.iter().position(|entry| entry.used && entry.triple() == triple);
         let place = present.or_else(|| self.entries.iter().position(|entry| !entry.used)).ok_or(Refusal::Full)?;
-        let (_, receiver) = Receiver::fresh(key, triple.key_id, triple.peer);
+        let (_, receiver) = Receiver::fresh(key, triple.key_id, triple.peer, size);
         self.entries[place] = Entry { used: true, may_send, may_receive, own: triple.own, last_number: 0, receiver };
         Ok(Done::default())
     }
@@ -157,6 +160,7 @@ mod tests {
     use super::*;
     use crate::frame::{header_length, MAX_HEADER, MAX_NUMBER, PROTECTED};
     use crate::sample::{Random, CONTROLS};
+    use crate::window::Window;
 
     const BOX: [u8; 6] = [2, 0, 0, 0, 0, 1];
     const QOS: [u8; 2] = [0x88, 0x00];
@@ -171,10 +175,10 @@ mod tests {
         [2, 0, 0, 0, 1, which]
     }
 
-    /// The box with a camera, both flags on. The key of camera 0 is a free entry's.
+    /// The box with a camera, both flags on, of size 1 for even ones and 16 for odd ones. The key of camera 0 is a free entry's.
     fn pairing(which: u8) -> Pairing {
         let triple = Triple { own: BOX, peer: camera(which), key_id: which % 4 };
-        Pairing { triple, key: [which; 16], may_send: true, may_receive: true }
+        Pairing { triple, key: [which; 16], may_send: true, may_receive: true, size: SIZES[usize::from(which % 2)] }
     }
 
     /// The box's table with so many cameras, in their order.
@@ -257,9 +261,25 @@ mod tests {
     fn added_entries() {
         let mut table = table(2);
         assert_eq!(table.add(&Pairing { may_send: false, ..pairing(6) }), CHANGED);
-        let receiver = Receiver { key: [6; 16], key_id: 2, peer: camera(6), ..Receiver::default() };
+        let receiver = Receiver { key: [6; 16], key_id: 2, peer: camera(6), window_size: 1, ..Receiver::default() };
         assert_eq!(table.entries[2], Entry { used: true, may_send: false, may_receive: true, own: BOX, last_number: 0, receiver });
         assert_eq!((&table.entries[..2], &table.entries[3..]), (&self::table(2).entries[..2], &Table::default().entries[3..]));
+        assert_eq!(table.entries[1].receiver.window_size, 16);
+    }
+
+    // As a key ID over 3 is, before 17 and 16.
+    #[test]
+    fn sizes_refused() {
+        let mut table = table(16);
+        let before = table.clone();
+        for size in [0, 2, 15, 17, 255] {
+            for key in [NEW_KEY, [3; 16]] {
+                assert_eq!(table.add(&Pairing { key, size, ..pairing(16) }), Err(Refusal::Record));
+                assert_eq!(table.add(&Pairing { key, size, ..pairing(1) }), Err(Refusal::Record));
+            }
+            assert_eq!(Table::default().add(&Pairing { size, ..pairing(1) }), Err(Refusal::Record));
+        }
+        assert_eq!(table, before);
     }
 
     #[test]
@@ -310,9 +330,9 @@ mod tests {
                 assert_eq!(table.add(&Pairing { key: [key; 16], ..pairing(2) }), Err(Refusal::Taken));
                 assert_eq!(table, before);
             }
-            assert_eq!(table.add(&Pairing { key: NEW_KEY, may_receive: false, ..pairing(2) }), CHANGED);
+            assert_eq!(table.add(&Pairing { key: NEW_KEY, may_receive: false, size: 16, ..pairing(2) }), CHANGED);
             let fresh = |entry: &mut Entry| {
-                let receiver = Receiver { key: NEW_KEY, key_id: 2, peer: camera(2), ..Receiver::default() };
+                let receiver = Receiver { key: NEW_KEY, key_id: 2, peer: camera(2), window_size: 16, ..Receiver::default() };
                 *entry = Entry { used: true, may_send: true, may_receive: false, own: BOX, last_number: 0, receiver };
             };
             assert_eq!(table, with(before, 2, fresh));
@@ -437,7 +457,7 @@ mod tests {
         assert_eq!([3, 1, 4].map(&mut open), [Ok(3), Ok(1), Ok(2)]);
         assert_eq!([0, 1, 2, 3, 4].map(open), [Err(Refusal::Replay); 5]);
         assert_eq!([4, 12].map(|place: usize| table.entries[place].receiver.counts()), [[0, 3, 0, 1], [0, 2, 0, 2]]);
-        assert_eq!([4, 12].map(|place: usize| table.entries[place].receiver.replay_counters[8]), [3, 2]);
+        assert_eq!([4, 12].map(|place: usize| table.entries[place].receiver.windows[8].greatest), [3, 2]);
         let mut seal = |which: u8| table.seal(0, &plain(QOS, camera(which), BOX), &mut [0; ROOM]).map(|done| done.number);
         assert_eq!([4, 12, 4, 4, 12].map(&mut seal), [Ok(1), Ok(1), Ok(2), Ok(3), Ok(2)]);
         // A camera's frame with the other's address is no frame of either.
@@ -445,6 +465,37 @@ mod tests {
         forged[10..16].copy_from_slice(&camera(12));
         assert_eq!(table.open(&forged, &mut [0; ROOM]), Err(Refusal::Integrity));
         assert_eq!([4, 12].map(|place: usize| table.entries[place].receiver.decrypt_errors), [0, 1]);
+    }
+
+    // Camera 5's entry takes late frames and camera 4's does not. What one has opened is nothing to the other.
+    #[test]
+    fn late_frames() {
+        let mut table = table(16);
+        let frames = [4, 5].map(|which| {
+            let mut camera = sender(which);
+            [(); 17].map(|()| sent(&mut camera))
+        });
+        let mut opened = |camera: usize, numbers: &[usize]| {
+            let open = |&number: &usize| table.open(&frames[camera][number - 1], &mut [0; ROOM]).is_ok();
+            numbers.iter().map(open).collect::<Vec<_>>()
+        };
+        assert_eq!(opened(0, &[16, 1, 15, 16, 17, 16, 2]), [true, false, false, false, true, false, false]);
+        assert_eq!(opened(1, &[16, 1, 15, 16, 17, 16, 2]), [true, true, true, false, true, false, true]);
+        assert_eq!([opened(0, &[1, 2, 3]), opened(1, &[1, 2, 3])], [[false; 3], [false, false, true]]);
+        let mut forged = frames[1][8].clone();
+        forged[40] ^= 1;
+        let before = table.entries[5].receiver.windows.clone();
+        assert_eq!(table.open(&forged, &mut [0; ROOM]), Err(Refusal::Integrity));
+        assert_eq!((&table.entries[5].receiver.windows, &before[8].opened[..]), (&before, &[2, 3, 15, 16, 17][..]));
+        assert_eq!(table.open(&frames[1][8], &mut [0; ROOM]), done(9, 29));
+        assert_eq!(table.entries[4].receiver.windows[8], Window::at(17));
+        assert_eq!([4, 5].map(|place: usize| table.entries[place].receiver.counts()), [[0, 8, 0, 2], [0, 4, 1, 7]]);
+        // Restarted, it takes them all again from its new key's camera, and one by one at its new size.
+        assert_eq!(table.add(&Pairing { key: NEW_KEY, size: 1, ..pairing(5) }), CHANGED);
+        assert_eq!(table.entries[5].receiver.windows, Receiver::default().windows);
+        let mut camera = Sender { key: NEW_KEY, ..sender(5) };
+        let answers = [sent(&mut camera), sent(&mut camera)].map(|frame| table.open(&frame, &mut [0; ROOM]));
+        assert_eq!(answers, [done(1, 29), done(2, 29)]);
     }
 
     // Numbers and counters are the entry's, not the camera's.
@@ -480,13 +531,23 @@ mod tests {
     fn tables_that_are_not_sound() {
         for (cameras, place) in [(1, 0), (2, 1), (16, 0), (16, 15)] {
             let table = table(cameras);
-            let changes: [&dyn Fn(&mut Entry); 6] = [
+            let changes: [&dyn Fn(&mut Entry); 16] = [
                 &|entry| entry.receiver.key_id = 4,
                 &|entry| entry.receiver.key_id = 255,
                 &|entry| entry.last_number = MAX_NUMBER + 1,
                 &|entry| entry.last_number = u64::MAX,
-                &|entry| entry.receiver.replay_counters[0] = MAX_NUMBER + 1,
-                &|entry| entry.receiver.replay_counters[15] = MAX_NUMBER + 1,
+                &|entry| entry.receiver.windows[0] = Window::at(MAX_NUMBER + 1),
+                &|entry| entry.receiver.windows[15] = Window::at(u64::MAX),
+                &|entry| entry.receiver.window_size = 0,
+                &|entry| entry.receiver.window_size = 2,
+                &|entry| entry.receiver.window_size = 15,
+                &|entry| entry.receiver.window_size = 17,
+                &|entry| entry.receiver.window_size = 255,
+                &|entry| entry.receiver.windows[0].opened = vec![0],
+                &|entry| entry.receiver.windows[15] = Window { greatest: 3, opened: vec![-1, 3] },
+                &|entry| entry.receiver.windows[8].greatest = 9,
+                &|entry| entry.receiver.windows[7] = Window { greatest: 9, opened: vec![8] },
+                &|entry| (entry.receiver.window_size, entry.receiver.windows[15]) = (1, Window { greatest: 9, opened: vec![8, 9] }),
             ];
             for change in changes {
                 let unsound = with(table.clone(), place, change);
@@ -500,7 +561,9 @@ mod tests {
         // Flags off change nothing of it.
         let off = with(table(2), 1, |entry| *entry = Entry { may_send: false, may_receive: false, last_number: MAX_NUMBER + 1, ..entry.clone() });
         assert_eq!(answers(&off, 0), [Some(Refusal::Record); 4]);
-        let mut limits = with(table(2), 1, |entry| (entry.last_number, entry.receiver.replay_counters) = (MAX_NUMBER, [MAX_NUMBER; 16]));
+        let mut limits = with(table(2), 1, |entry| {
+            (entry.last_number, entry.receiver.windows) = (MAX_NUMBER, std::array::from_fn(|_| Window::at(MAX_NUMBER)));
+        });
         assert_eq!(answers(&limits, 0), [None; 4]);
         assert_eq!(limits.seal(1, &plain(QOS, camera(1), BOX), &mut [0; ROOM]), Err(Refusal::Spent));
         assert_eq!(limits.open(&sent(&mut sender(1)), &mut [0; ROOM]), Err(Refusal::Replay));
@@ -534,7 +597,8 @@ mod tests {
 
     #[test]
     fn free_entries_play_no_part() {
-        let unsound = Receiver { key: [0; 16], key_id: 255, replay_counters: [u64::MAX; 16], ..Receiver::default() };
+        let windows = std::array::from_fn(|_| Window { greatest: u64::MAX, opened: vec![-1] });
+        let unsound = Receiver { key: [0; 16], key_id: 255, window_size: 255, windows, ..Receiver::default() };
         let garbage = [
             Entry { used: false, ..table(1).entries[0].clone() },
             Entry { used: false, ..table(16).entries[14].clone() },
@@ -607,7 +671,7 @@ mod tests {
 
     #[test]
     fn opening_in_order_of_its_tests() {
-        let table = with(table(16), 5, |entry| entry.receiver.replay_counters[14] = 1);
+        let table = with(table(16), 5, |entry| entry.receiver.windows[14] = Window::at(1));
         // The refusal, and what it adds to the table's count and to the entry's.
         let refused = |table: &Table, frame: &[u8], room: usize| {
             let (mut after, mut out) = (table.clone(), vec![0xaa; room]);

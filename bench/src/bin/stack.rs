@@ -1,13 +1,15 @@
 //! The most stack that one seal, open, split and join take, as it shows: each runs on a stack filled with a pattern, which is then looked
-//! through for the lowest octet that changed. Every header shape and body length is tried; opening with a right and a wrong code, splitting
-//! into as many fragments as may be, and joining of a first fragment, a next one, the last one and one that is dropped. And that of bench's
-//! functions on a table with one camera, which hold three tables of their own beside what the two calls that they make take.
+//! through for the lowest octet that changed. Every header shape and body length is tried; opening at both sizes, also a late frame, with a
+//! right and a wrong code, splitting into as many fragments as may be, and joining of a first fragment, a next one, the last one and one that
+//! is dropped. And that of bench's functions on a table with one camera, which hold three tables of their own beside what the two calls that
+//! they make take.
 
 use proved::exported::{bench_ccmp_open, bench_ccmp_seal, bench_join, bench_split, bench_table_add, bench_table_open, bench_table_seal};
-use proved::Told;
+use proved::{Record, Told};
 use second::fragment::{Joiner, MAX_FRAGMENTS, MAX_MESSAGE, MAX_SIZE, MIN_SIZE, MORE_FRAG};
 use second::frame::{header_length, Receiver, Sender, ADDED, MAX_BODY};
 use second::sample::CONTROLS;
+use second::window::SIZES;
 use std::arch::asm;
 
 const STACK: usize = 1 << 16;
@@ -50,11 +52,14 @@ fn sealing(stack: &mut Stack, filling: u8, mut s: Sender, frame: &mut [u8], out:
     octets_used(stack, filling, bench_ccmp_seal as *const () as usize, &[&record[..], &lent].concat())
 }
 
-fn opening(stack: &mut Stack, filling: u8, mut r: Receiver, frame: &mut [u8], out: &mut [u8]) -> usize {
-    let (mut counts, mut told) = ([0u32; 4], [0; 4]);
-    let record = [address_of(&mut r.key), address_of(&mut r.key_id), address_of(&mut r.peer), address_of(&mut r.replay_counters)];
-    let lent = [address_of(&mut counts), address_of::<Told>(&mut told), address_of(frame), frame.len(), address_of(out), out.len()];
-    octets_used(stack, filling, bench_ccmp_open as *const () as usize, &[&record[..], &lent].concat())
+fn opening(stack: &mut Stack, filling: u8, mut r: Record, frame: &mut [u8], out: &mut [u8], answer: u64) -> usize {
+    let mut told = [0; 4];
+    let made = [address_of(&mut r.key), address_of(&mut r.key_id), address_of(&mut r.peer), address_of(&mut r.size)];
+    let moved = [address_of(&mut r.replay), address_of(&mut r.seen), address_of(&mut r.counts)];
+    let lent = [address_of::<Told>(&mut told), address_of(frame), frame.len(), address_of(out), out.len()];
+    let octets = octets_used(stack, filling, bench_ccmp_open as *const () as usize, &[&made[..], &moved, &lent].concat());
+    assert_eq!(told[0], answer);
+    octets
 }
 
 fn splitting(stack: &mut Stack, filling: u8, mut s: Sender, size: usize, frame: &mut [u8], out: &mut [u8]) -> usize {
@@ -99,16 +104,21 @@ fn plain(control: [u8; 2], length: usize) -> Vec<u8> {
 /// Of sealing and opening.
 fn most_for_frames(stack: &mut Stack, filling: u8, control: [u8; 2]) -> [usize; 2] {
     let (_, sender) = Sender::fresh([7; 16], 0, ADDRESS);
-    let (_, receiver) = Receiver::fresh([7; 16], 0, ADDRESS);
+    let fresh = SIZES.map(|size| Record::from(&Receiver::fresh([7; 16], 0, ADDRESS, size).1));
+    // Of size 16, and the frame's number is late by 15.
+    let late = Record { replay: [16; 16], seen: [1; 16], ..fresh[1].clone() };
     let (mut sealed, mut opened) = (0, 0);
     for length in 1..=MAX_BODY {
         let mut plain = plain(control, length);
         let (mut text, mut out) = (vec![0; plain.len() + ADDED], vec![0; plain.len()]);
         sealed = sealed.max(sealing(stack, filling, sender.clone(), &mut plain, &mut text));
-        opened = opened.max(opening(stack, filling, receiver.clone(), &mut text, &mut out));
-        assert_eq!(plain, out);
-        text[header_length(&control) + 8] ^= 1;
-        opened = opened.max(opening(stack, filling, receiver.clone(), &mut text, &mut out));
+        for record in fresh.iter().chain([&late]) {
+            opened = opened.max(opening(stack, filling, record.clone(), &mut text, &mut out, 0));
+            assert_eq!(plain, out);
+            text[header_length(&control) + 8] ^= 1;
+            opened = opened.max(opening(stack, filling, record.clone(), &mut text, &mut out, 11));
+            text[header_length(&control) + 8] ^= 1;
+        }
     }
     [sealed, opened]
 }

@@ -6,6 +6,7 @@ use lib.ListN.{getD}
 use Rattle.ccm.specs.declared.Outcome.{Outcome}
 use Rattle.ccm.specs.declared.Outcome.the-variants.{Done, Refused}
 use Rattle.rules.specs.Answers.{told}
+use Rattle.rules.specs.Limits.{smallWindow}
 use Rattle.rules.specs.Records.{newSender, newReceiver, withLast}
 use Rattle.rules.specs.Table.{newEntry, freshTable, put}
 use Rattle.rules.specs.Adding.{addAnswer, addNext}
@@ -31,13 +32,13 @@ abbrev pub countsOf : List ℕ → Counts
 countsOf counts =
     record { «format_errors» = getD counts 0 0; replays = getD counts 1 0; «decrypt_errors» = getD counts 2 0; opened = getD counts 3 0 }
 
--- a receiver with these replay counters and counts
-abbrev pub withCounters : Receiver → List ℕ → List ℕ → Receiver
-withCounters r replay counts =
-    record { key = r .key; «key_id» = r .«key_id»; peer = r .peer; replay = replay; counts = countsOf counts }
+-- a receiver with these windows and counts
+abbrev pub withWindows : Receiver → List ℕ → List ℕ → List ℕ → Receiver
+withWindows r replay seen counts =
+    record { key = r .key; «key_id» = r .«key_id»; peer = r .peer; size = r .size; replay = replay; seen = seen; counts = countsOf counts }
 
-abbrev pub receiver : List ℕ → ℕ → List ℕ → List ℕ → List ℕ → Receiver
-receiver key keyId peer replay counts = withCounters (newReceiver key keyId peer) replay counts
+abbrev pub receiver : List ℕ → ℕ → List ℕ → ℕ → List ℕ → List ℕ → List ℕ → Receiver
+receiver key keyId peer size replay seen counts = withWindows (newReceiver key keyId peer size) replay seen counts
 
 -- a joiner with this last fragment
 abbrev pub joiner : List ℕ → ℕ → List ℕ → ℕ → ℕ → ℕ → ℕ → Joiner
@@ -51,7 +52,7 @@ joiner held length address priority sequence fragment number =
 -- a camera that may send and receive, and a table with this one
 abbrev pub camera : List ℕ → List ℕ → ℕ → List ℕ → Pairing
 camera own peer keyId key =
-    record { triple = record { own = own; peer = peer; «key_id» = keyId }; key = key; «may_send» = true; «may_receive» = true }
+    record { triple = record { own = own; peer = peer; «key_id» = keyId }; key = key; size = smallWindow; «may_send» = true; «may_receive» = true }
 
 abbrev pub oneCamera : List ℕ → List ℕ → ℕ → List ℕ → Table
 oneCamera own peer keyId key = put freshTable 0 (newEntry (camera own peer keyId key))

@@ -6,7 +6,7 @@ use rules::Receiver;
 use rules::Sender;
 ghost use mathlib.Core.Path.{_≡_};
 ghost use Rattle.rules.specs.Opening.{openAnswer, openNext, openOutput};
-ghost use Rattle.rules.specs.Records.{freshAnswer, freshSender, freshReceiver};
+ghost use Rattle.rules.specs.Records.{freshAnswer, freshSender, receiverAnswer, freshReceiver};
 ghost use Rattle.rules.specs.Sealing.{sealAnswer, sealNext, sealOutput};
 ghost use Rattle.bench.specs.Numbers.{sender, receiver, parts};
 
@@ -32,13 +32,16 @@ fn receiver_of(
     key: [u8; 16],
     key_id: u8,
     peer: [u8; 6],
+    size: u8,
     replay: [u64; 16],
+    seen: [u16; 16],
     counts: [u32; 4],
 ) -> Receiver
-    ensures { λ r. ⌜ r ≡ receiver key «key_id» peer replay counts ⌝ }
+    ensures { λ r. ⌜ r ≡ receiver key «key_id» peer size replay seen counts ⌝ }
 {
-    let mut r = ccmp::new_receiver(key, key_id, peer);
+    let mut r = ccmp::new_receiver(key, key_id, peer, size);
     r.replay = replay;
+    r.seen = seen;
     let c = Counts {
         format_errors: counts[0],
         replays: counts[1],
@@ -112,16 +115,18 @@ pub extern "C" fn bench_fresh_receiver(
     key: &mut [u8; 16],
     key_id: &mut u8,
     peer: &mut [u8; 6],
+    size: &mut u8,
     replay: &mut [u64; 16],
+    seen: &mut [u16; 16],
     counts: &mut [u32; 4],
     answer: &mut [u64; 4],
 )
-    ensures { λ _. ⌜ now (answer .exit) ≡ parts (freshAnswer (now («key_id» .entry))) ⌝ }
+    ensures { λ _. ⌜ now (answer .exit) ≡ parts (receiverAnswer (now («key_id» .entry)) (now (size .entry))) ⌝ }
     ensures { λ _. ⌜
-        receiver (now (key .exit)) (now («key_id» .exit)) (now (peer .exit)) (now (replay .exit)) (now (counts .exit))
-        ≡ freshReceiver (now (key .entry)) (now («key_id» .entry)) (now (peer .entry)) ⌝ }
+        receiver (now (key .exit)) (now («key_id» .exit)) (now (peer .exit)) (now (size .exit)) (now (replay .exit)) (now (seen .exit)) (now (counts .exit))
+        ≡ freshReceiver (now (key .entry)) (now («key_id» .entry)) (now (peer .entry)) (now (size .entry)) ⌝ }
 {
-    let fresh = ccmp::fresh_receiver(*key, *key_id, *peer);
+    let fresh = ccmp::fresh_receiver(*key, *key_id, *peer, *size);
     let a = fresh.answer;
     *answer = parts_of(a);
     let r = fresh.receiver;
@@ -130,8 +135,11 @@ pub extern "C" fn bench_fresh_receiver(
     *key_id = r.key_id;
     let address = r.peer;
     *peer = address;
+    *size = r.size;
     let counters = r.replay;
     *replay = counters;
+    let bits = r.seen;
+    *seen = bits;
     let c = r.counts;
     *counts = [c.format_errors, c.replays, c.decrypt_errors, c.opened];
 }
@@ -141,7 +149,9 @@ pub extern "C" fn bench_ccmp_open(
     key: &mut [u8; 16],
     key_id: &mut u8,
     peer: &mut [u8; 6],
+    size: &mut u8,
     replay: &mut [u64; 16],
+    seen: &mut [u16; 16],
     counts: &mut [u32; 4],
     answer: &mut [u64; 4],
     frame: &[u8],
@@ -149,15 +159,15 @@ pub extern "C" fn bench_ccmp_open(
 )
     ensures { λ _. ⌜
         now (answer .exit)
-        ≡ parts (openAnswer (receiver (now (key .entry)) (now («key_id» .entry)) (now (peer .entry)) (now (replay .entry)) (now (counts .entry))) (now (frame .entry)) (now (out .entry))) ⌝ }
+        ≡ parts (openAnswer (receiver (now (key .entry)) (now («key_id» .entry)) (now (peer .entry)) (now (size .entry)) (now (replay .entry)) (now (seen .entry)) (now (counts .entry))) (now (frame .entry)) (now (out .entry))) ⌝ }
     ensures { λ _. ⌜
-        receiver (now (key .exit)) (now («key_id» .exit)) (now (peer .exit)) (now (replay .exit)) (now (counts .exit))
-        ≡ openNext (receiver (now (key .entry)) (now («key_id» .entry)) (now (peer .entry)) (now (replay .entry)) (now (counts .entry))) (now (frame .entry)) (now (out .entry)) ⌝ }
+        receiver (now (key .exit)) (now («key_id» .exit)) (now (peer .exit)) (now (size .exit)) (now (replay .exit)) (now (seen .exit)) (now (counts .exit))
+        ≡ openNext (receiver (now (key .entry)) (now («key_id» .entry)) (now (peer .entry)) (now (size .entry)) (now (replay .entry)) (now (seen .entry)) (now (counts .entry))) (now (frame .entry)) (now (out .entry)) ⌝ }
     ensures { λ _. ⌜
         now (out .exit)
-        ≡ openOutput (receiver (now (key .entry)) (now («key_id» .entry)) (now (peer .entry)) (now (replay .entry)) (now (counts .entry))) (now (frame .entry)) (now (out .entry)) ⌝ }
+        ≡ openOutput (receiver (now (key .entry)) (now («key_id» .entry)) (now (peer .entry)) (now (size .entry)) (now (replay .entry)) (now (seen .entry)) (now (counts .entry))) (now (frame .entry)) (now (out .entry)) ⌝ }
 {
-    let before = receiver_of(*key, *key_id, *peer, *replay, *counts);
+    let before = receiver_of(*key, *key_id, *peer, *size, *replay, *seen, *counts);
     let opened = ccmp::open(before, frame, out);
     let a = opened.answer;
     *answer = parts_of(a);
@@ -167,8 +177,11 @@ pub extern "C" fn bench_ccmp_open(
     *key_id = r.key_id;
     let address = r.peer;
     *peer = address;
+    *size = r.size;
     let counters = r.replay;
     *replay = counters;
+    let bits = r.seen;
+    *seen = bits;
     let c = r.counts;
     *counts = [c.format_errors, c.replays, c.decrypt_errors, c.opened];
 }

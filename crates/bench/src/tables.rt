@@ -1,6 +1,7 @@
 // Adding to a fresh table, and sealing and opening through one with one camera, each twice: by these the stack is measured. A call that is made
 // at two places is a function of its own in the compiled code.
 use crate::frames::parts_of;
+use ccmp::SMALL_WINDOW;
 use rules::Entry;
 use rules::Pairing;
 use rules::Table;
@@ -11,7 +12,7 @@ ghost use Rattle.bench.specs.Numbers.{camera, oneCamera, addedTwice, sea
 fn one_camera(own: [u8; 6], peer: [u8; 6], key_id: u8, key: [u8; 16]) -> Table
     ensures { λ t. ⌜ t ≡ oneCamera own peer «key_id» key ⌝ }
 {
-    let receiver = ccmp::new_receiver(key, key_id, peer);
+    let receiver = ccmp::new_receiver(key, key_id, peer, SMALL_WINDOW);
     let mut t = table::new_table();
     t.entries[0] = Entry {
         used: true,
@@ -42,6 +43,7 @@ pub extern "C" fn bench_table_add(
     let x = Pairing {
         triple,
         key: *key,
+        size: SMALL_WINDOW,
         may_send: true,
         may_receive: true,
     };

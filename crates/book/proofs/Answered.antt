@@ -7,6 +7,7 @@ use native.Mathlib.Nat.{add-zero}
 use native.Mathlib.Omega.{arith}
 use lib.ListN.{length, take, length-replicate, take-append-drop}
 use Rattle.rules.specs.Mode.{added}
+use Rattle.rules.specs.Limits.{smallWindow}
 use Rattle.rules.specs.Records.{freshSender, freshReceiver}
 use Rattle.rules.specs.Answers.{told, answerNumber}
 use Rattle.rules.specs.Sealing.{sealedFrame, sealAnswer, sealNext, sealOutput}
@@ -43,7 +44,7 @@ module _ (b : Book) (fs : List (List ℕ)) (n : ℕ) (next : n ≡ lineNumber b)
   pub first-told : isKeyLine fs ≡ false → badLine n ≡ saysAt First b fs
   first-told e = rw (e, next)
 
-  pub first-good : isKeyLine fs ≡ true → (k : Keys) → Given fs k → (s : Sender) (r : Receiver) → s ≡ freshSender (k .key) (k .«key_id») (k .own) → r ≡ freshReceiver (k .key) (k .«key_id») (k .peer)
+  pub first-good : isKeyLine fs ≡ true → (k : Keys) → Given fs k → (s : Sender) (r : Receiver) → s ≡ freshSender (k .key) (k .«key_id») (k .own) → r ≡ freshReceiver (k .key) (k .«key_id») (k .peer) smallWindow
       → record { lines = n; stage = Going; sender = s; receiver = r } ≡ begun b fs
   unfolding begun
   first-good e k g s r se re = rw (e, next, se, re, g .key-is, g .key-id-is, g .own-is, g .peer-is)

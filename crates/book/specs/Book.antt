@@ -5,6 +5,7 @@ use Prim.Native.Nat.{ℕ, _+_, _%_, _^_}
 use lib.ListN.{length, take, getD, replicate}
 use Rattle.octets.specs.Options.{contents}
 use Rattle.rules.specs.Mode.{added}
+use Rattle.rules.specs.Limits.{smallWindow}
 use Rattle.rules.specs.Records.{zeroSender, zeroReceiver, freshSender, freshReceiver}
 use Rattle.rules.specs.Answers.{answerNumber}
 use Rattle.rules.specs.Sealing.{sealAnswer, sealNext, sealOutput}
@@ -81,7 +82,7 @@ begun b fs =
     let key = contents (octetsOf (field fs 1)) in
     let keyId = digit (getD (field fs 2) 0 0) in
     cond (isKeyLine fs)
-    (turned b Going (freshSender key keyId (contents (octetsOf (field fs 3)))) (freshReceiver key keyId (contents (octetsOf (field fs 4)))))
+    (turned b Going (freshSender key keyId (contents (octetsOf (field fs 3)))) (freshReceiver key keyId (contents (octetsOf (field fs 4))) smallWindow))
     (turned b Ended (b .sender) (b .receiver))
 
 abbrev pub saysAt : Stage → Book → List (List ℕ) → List ℕ

@@ -8,6 +8,7 @@ use crate::line::MOST_LINE;
 use crate::line::keys_of;
 use crate::put::put_text;
 use ccmp::ADDED;
+use ccmp::SMALL_WINDOW;
 use rules::Answer;
 use rules::Receiver;
 use rules::Sender;
@@ -149,7 +150,7 @@ pub(crate) fn first_line(b: Book, line: &[u8], out: &mut [u8], at: usize) -> Tur
     let own = k.own;
     let peer = k.peer;
     let sealed = ccmp::fresh_sender(key, k.key_id, own);
-    let opened = ccmp::fresh_receiver(key, k.key_id, peer);
+    let opened = ccmp::fresh_receiver(key, k.key_id, peer, SMALL_WINDOW);
     let sender = sealed.sender;
     let receiver = opened.receiver;
     Turn {

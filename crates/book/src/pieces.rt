@@ -43,7 +43,7 @@ pub fn new_reader() -> Reader
     ensures { λ r. ⌜ held r ≡ [] ⌝ }
 {
     let sender = ccmp::new_sender([0; KEY_OCTETS], 0, [0; ADDRESS_OCTETS]);
-    let receiver = ccmp::new_receiver([0; KEY_OCTETS], 0, [0; ADDRESS_OCTETS]);
+    let receiver = ccmp::new_receiver([0; KEY_OCTETS], 0, [0; ADDRESS_OCTETS], 0);
     Reader {
         book: Book {
             lines: 0,

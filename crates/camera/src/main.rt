@@ -24,7 +24,7 @@ fn main() {
     let camera: [u8; 6] = *b"\x02cam-1";
     let made = ccmp::fresh_sender(key, 0, camera);
     let sender = made.sender;
-    let met = ccmp::fresh_receiver(key, 0, camera);
+    let met = ccmp::fresh_receiver(key, 0, camera, ccmp::SMALL_WINDOW);
     let receiver = met.receiver;
 
     // Frame Control, Duration, the addresses of receiver, sender and destination, Sequence Control, and the body.

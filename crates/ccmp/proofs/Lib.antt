@@ -9,4 +9,5 @@ mod Modes
 mod Numbers
 pub mod Parts
 pub mod Verdicts
+mod Windows
 pub mod Writes

@@ -6,6 +6,7 @@ use rules::Sender;
 mod header; // header.rt: the header of a frame
 mod nonce; // nonce.rt: the nonce
 mod number; // number.rt: the packet number in the CCMP header
+mod window; // window.rt: the replay windows
 mod record; // record.rt: the two records
 mod mode; // mode.rt: CCM over AES
 mod verdict; // verdict.rt: the tests of the header
@@ -23,6 +24,7 @@ pub use record::fresh_receiver;
 pub use record::fresh_sender;
 pub use record::new_receiver;
 pub use record::new_sender;
+pub use record::receiver_fits;
 pub use record::sound_receiver;
 pub use record::sound_sender;
 pub use sealing::LEAST_BODY;
@@ -32,6 +34,8 @@ pub use sealing::seal_parts;
 pub use verdict::Verdict;
 pub use verdict::header_tests;
 pub use verdict::outside;
+pub use window::LARGE_WINDOW;
+pub use window::SMALL_WINDOW;
 
 // What a call on a sender answers, and the sender afterwards.
 pub struct Sealed {

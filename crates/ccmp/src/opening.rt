@@ -15,6 +15,8 @@ use crate::sealing::MOST_BODY;
 use crate::verdict::Verdict;
 use crate::verdict::header_tests;
 use crate::verdict::outside;
+use crate::window::takes;
+use crate::window::window_of;
 use rules::Answer;
 use rules::Header;
 use rules::Receiver;
@@ -56,9 +58,8 @@ fn later_tests(r: Receiver, frame: &[u8], header: Header, room: usize) -> Verdic
     if octet >> 6 != r.key_id {
         return Verdict::Refuse(9);
     }
-    let replay = r.replay;
-    let at = header.priority as usize;
-    if number_at(frame, h) <= replay[at] {
+    let w = window_of(r, header.priority);
+    if !takes(w, number_at(frame, h)) {
         return Verdict::Refuse(10);
     }
     Verdict::Pass(header)
@@ -97,7 +98,7 @@ fn put_opened(r: Receiver, n: u64, header: Header, frame: &[u8], out: &mut [u8])
 }
 
 // Opens a sealed frame into the front of out; the rest of out is kept. A refusal writes nothing and moves no replay
-// counter, and nothing is written before the integrity code is found right.
+// window, and nothing is written before the integrity code is found right.
 pub fn open(r: Receiver, frame: &[u8], out: &mut [u8]) -> Opened
     ensures { λ o. ⌜ told (o .answer) ≡ told (openAnswer r (now (frame .entry)) (now (out .entry))) ⌝ }
     ensures { λ o. ⌜ o .receiver ≡ openNext r (now (frame .entry)) (now (out .entry)) ⌝ }

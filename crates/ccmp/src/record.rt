@@ -1,6 +1,11 @@
 // The two records: soundness, fresh records, and the records that answers leave.
 use crate::Opened;
 use crate::Sealed;
+use crate::window::LARGE_WINDOW;
+use crate::window::SMALL_WINDOW;
+use crate::window::next_window;
+use crate::window::sound_windows;
+use crate::window::window_of;
 use rules::ADDRESS_OCTETS;
 use rules::Answer;
 use rules::Counts;
@@ -9,10 +14,12 @@ use rules::PRIORITIES;
 use rules::Receiver;
 use rules::Sender;
 ghost use mathlib.Core.Path.{_≡_};
+ghost use mathlib.Core.Bool.{true};
 ghost use Prim.Native.Nat.{ℕ, _<_};
 ghost use Rattle.rules.specs.Limits.{mostNumber, priorities};
+ghost use Rattle.rules.specs.Windows.{takes};
 ghost use Rattle.rules.specs.Answers.{told};
-ghost use Rattle.rules.specs.Records.{allAtMost, soundSender, soundReceiver, newSender, newReceiver, freshAnswer, freshSender, freshReceiver, senderNext, countOf, counted, countsNext, receiverNext};
+ghost use Rattle.rules.specs.Records.{windowOf, soundSender, receiverFits, soundReceiver, newSender, newReceiver, freshAnswer, freshSender, receiverAnswer, freshReceiver, senderNext, countOf, counted, countsNext, receiverNext};
 
 pub const MOST_NUMBER: u64 = 281474976710655;
 
@@ -29,19 +36,6 @@ const DECRYPT_COUNT: u8 = 3;
 
 const OPENED_COUNT: u8 = 4;
 
-fn counters_fit(replay: [u64; PRIORITIES]) -> bool
-    ensures { λ r. ⌜ r ≡ allAtMost mostNumber replay ⌝ }
-{
-    let mut i: usize = 0;
-    while i < PRIORITIES {
-        if MOST_NUMBER < replay[i] {
-            return false;
-        }
-        i += 1;
-    }
-    true
-}
-
 pub fn sound_sender(s: Sender) -> bool
     ensures { λ r. ⌜ r ≡ soundSender s ⌝ }
 {
@@ -51,14 +45,26 @@ pub fn sound_sender(s: Sender) -> bool
     s.last <= MOST_NUMBER
 }
 
+// Whether a receiver may have this key ID and this size of its windows.
+pub fn receiver_fits(key_id: u8, size: u8) -> bool
+    ensures { λ r. ⌜ r ≡ receiverFits «key_id» size ⌝ }
+{
+    if MOST_KEY_ID < key_id {
+        return false;
+    }
+    if size == SMALL_WINDOW {
+        return true;
+    }
+    size == LARGE_WINDOW
+}
+
 pub fn sound_receiver(r: Receiver) -> bool
     ensures { λ b. ⌜ b ≡ soundReceiver r ⌝ }
 {
-    let replay = r.replay;
-    if MOST_KEY_ID < r.key_id {
+    if !receiver_fits(r.key_id, r.size) {
         return false;
     }
-    counters_fit(replay)
+    sound_windows(r)
 }
 
 // A sender of these fields that has sealed nothing, whatever its key ID is.
@@ -73,15 +79,22 @@ pub fn new_sender(key: [u8; KEY_OCTETS], key_id: u8, address: [u8; ADDRESS_OCTET
     }
 }
 
-// A receiver of these fields that has opened nothing, whatever its key ID is.
-pub fn new_receiver(key: [u8; KEY_OCTETS], key_id: u8, peer: [u8; ADDRESS_OCTETS]) -> Receiver
-    ensures { λ r. ⌜ r ≡ newReceiver key «key_id» peer ⌝ }
+// A receiver of these fields that has opened nothing, whatever its key ID and its size are.
+pub fn new_receiver(
+    key: [u8; KEY_OCTETS],
+    key_id: u8,
+    peer: [u8; ADDRESS_OCTETS],
+    size: u8,
+) -> Receiver
+    ensures { λ r. ⌜ r ≡ newReceiver key «key_id» peer size ⌝ }
 {
     Receiver {
         key,
         key_id,
         peer,
+        size,
         replay: [0; PRIORITIES],
+        seen: [0; PRIORITIES],
         counts: Counts {
             format_errors: 0,
             replays: 0,
@@ -110,19 +123,25 @@ pub fn fresh_sender(key: [u8; KEY_OCTETS], key_id: u8, address: [u8; ADDRESS_OCT
     }
 }
 
-// A receiver that has opened nothing. A key ID over 3 is refused with 1 and gives zeros.
-pub fn fresh_receiver(key: [u8; KEY_OCTETS], key_id: u8, peer: [u8; ADDRESS_OCTETS]) -> Opened
-    ensures { λ r. ⌜ told (r .answer) ≡ told (freshAnswer «key_id») ⌝ }
-    ensures { λ r. ⌜ r .receiver ≡ freshReceiver key «key_id» peer ⌝ }
+// A receiver that has opened nothing, with windows of this size. A key ID over 3, or a size other than 1 or 16, is refused
+// with 1 and gives zeros, which are no sound receiver.
+pub fn fresh_receiver(
+    key: [u8; KEY_OCTETS],
+    key_id: u8,
+    peer: [u8; ADDRESS_OCTETS],
+    size: u8,
+) -> Opened
+    ensures { λ r. ⌜ told (r .answer) ≡ told (receiverAnswer «key_id» size) ⌝ }
+    ensures { λ r. ⌜ r .receiver ≡ freshReceiver key «key_id» peer size ⌝ }
 {
-    if MOST_KEY_ID < key_id {
-        let receiver = new_receiver([0; KEY_OCTETS], 0, [0; ADDRESS_OCTETS]);
+    if !receiver_fits(key_id, size) {
+        let receiver = new_receiver([0; KEY_OCTETS], 0, [0; ADDRESS_OCTETS], 0);
         return Opened {
             answer: Answer::Refused(1),
             receiver,
         };
     }
-    let receiver = new_receiver(key, key_id, peer);
+    let receiver = new_receiver(key, key_id, peer, size);
     Opened {
         answer: Answer::Done(0, 0, 0),
         receiver,
@@ -176,14 +195,16 @@ pub(crate) fn after_refusal(r: Receiver, refusal: u8) -> Receiver
 
 // The receiver after it has opened number n of priority p.
 pub(crate) fn after_opening(r: Receiver, n: u64, p: u8) -> Receiver
-    requires { ⌜ p < priorities ⌝ }
+    requires { ⌜ (p < priorities) × (soundReceiver r ≡ true) × (takes (windowOf r p) n ≡ true) ⌝ }
     ensures { λ s. ⌜ ((k : ℕ) → s ≡ receiverNext r (Answer.Done n p k)) ⌝ }
 {
     let at = p as usize;
+    let w = next_window(window_of(r, p), n);
     let before = r.counts;
     let counts = counts_after(OPENED_COUNT, before);
     let mut s = r;
-    s.replay[at] = n;
+    s.replay[at] = w.greatest;
+    s.seen[at] = w.seen;
     s.counts = counts;
     s
 }

@@ -3,6 +3,7 @@
 use ccmp::ADDED;
 use ccmp::MOST_BODY;
 use ccmp::MOST_NUMBER;
+use ccmp::SMALL_WINDOW;
 use rules::Answer;
 use rules::Counts;
 use rules::Receiver;
@@ -18,10 +19,13 @@ const SIZE: usize = MOST_BODY + 104;
 // The greatest count.
 const MOST_COUNT: u32 = 4294967295;
 
-fn zero_counters(replay: [u64; 16]) -> bool {
+fn zero_windows(replay: [u64; 16], seen: [u16; 16]) -> bool {
     let mut i: usize = 0;
     while i < 16 {
         if replay[i] != 0 {
+            return false;
+        }
+        if seen[i] != 0 {
             return false;
         }
         i += 1;
@@ -173,12 +177,15 @@ fn sender(last: u64) -> Sender {
     s
 }
 
-// A receiver with key ID 2, and n as the replay counter of priority p.
+// A receiver with key ID 2 and windows of size 1, and n as the replay counter of priority p.
 fn receiver(p: usize, n: u64) -> Receiver
     requires { ⌜ p < 16 ⌝ }
 {
-    let mut r = ccmp::new_receiver(key(), 2, address());
+    let mut r = ccmp::new_receiver(key(), 2, address(), SMALL_WINDOW);
     r.replay[p] = n;
+    if n != 0 {
+        r.seen[p] = 1;
+    }
     r
 }
 
@@ -431,7 +438,7 @@ fn seal_answers_later(s: Sender, frame: [u8; SIZE]) {
 fn open_answers() {
     let frame = plain(0x08, 0x00);
     let text = text_of(frame, 25, 0);
-    let fresh = ccmp::fresh_receiver(key(), 2, address());
+    let fresh = ccmp::fresh_receiver(key(), 2, address(), SMALL_WINDOW);
     let r = fresh.receiver;
     show::text(b"open 23 octets: ");
     let r = opens(r, text, 23, SIZE, frame, 2);
@@ -524,7 +531,11 @@ fn zero_receiver(r: Receiver) -> bool {
     let key = r.key;
     let peer = r.peer;
     let replay = r.replay;
+    let seen = r.seen;
     if r.key_id != 0 {
+        return false;
+    }
+    if r.size != 0 {
         return false;
     }
     if !octets::equal(&key, &[0; 16]) {
@@ -533,7 +544,7 @@ fn zero_receiver(r: Receiver) -> bool {
     if !octets::equal(&peer, &[0; 6]) {
         return false;
     }
-    zero_counters(replay)
+    zero_windows(replay, seen)
 }
 
 // Document 01 gives a fresh record an answer, but no number, priority or octets with it.
@@ -570,7 +581,7 @@ fn fresh_sender(key_id: u8, expected: u64) {
 }
 
 fn fresh_receiver(key_id: u8, expected: u64) {
-    let fresh = ccmp::fresh_receiver(key(), key_id, address());
+    let fresh = ccmp::fresh_receiver(key(), key_id, address(), SMALL_WINDOW);
     let answer = fresh.answer;
     let r = fresh.receiver;
     print_fresh(

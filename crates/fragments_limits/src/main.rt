@@ -251,7 +251,7 @@ fn hop(r: Receiver, j: Joiner, sealed: &[u8], out: &mut [u8]) -> After {
 fn carried(air: [u8; SPACE], k: usize, step: usize, out: &mut [u8]) -> After
     requires { ⌜ (k ≤ space) × (0 < step) ⌝ }
 {
-    let mut r = ccmp::new_receiver(KEY, 2, ADDRESS);
+    let mut r = ccmp::new_receiver(KEY, 2, ADDRESS, ccmp::SMALL_WINDOW);
     let mut j = fragments::new_joiner();
     let mut at: usize = 0;
     while step < k - at {

@@ -147,7 +147,7 @@ fn hears_some(
 
 // What the box keeps for a camera with this key and address, of which it has heard nothing.
 fn meets(key: [u8; 16], camera: [u8; 6]) -> Kept {
-    let met = ccmp::fresh_receiver(key, 0, camera);
+    let met = ccmp::fresh_receiver(key, 0, camera, ccmp::SMALL_WINDOW);
     let receiver = met.receiver;
     let joiner = fragments::new_joiner();
     Kept { receiver, joiner }

@@ -14,22 +14,23 @@ use Rattle.rules.specs.Calls.{Call, noCall, at, OctetFrames}
 use Rattle.rules.specs.Demand3.{Rearranged}
 use Rattle.rules.specs.Counts.{bit, howMany}
 use Rattle.rules.specs.declared.Answer.{Answer}
+use Rattle.rules.specs.declared.Window.{Window}
 use Rattle.rules.proofs.Sums.{strong, sum-same, sum-permuted}
 use Rattle.rules.proofs.States.{Runs, run-suc}
 use Rattle.rules.proofs.Tallies.{how-many, plusOne, Tally, tally-alike}
 use Rattle.rules.proofs.Counters.{Replays, Covers, determined, Counters, held, replays}
 
--- what is asked of one delivery: its answer rests on the counters of its channels alone, its output on the answer, and what else moves of
+-- what is asked of one delivery: its answer rests on the windows of its channels alone, its output on the answer, and what else moves of
 -- a state are counts of answers
 pub record Channelled {S D E : Type 0} (In : Call → D → Type 0) (next : S → Call → S) (answer : S → Call → Answer) (output : S → Call → List ℕ)
-    (counter : S → D → ℕ) (Opens : Call → Answer → D → ℕ → Type 0) (count : S → E → ℕ) (moves : E → Call → Answer → Bool)
+    (window : S → D → Window) (Opens : Call → Answer → D → ℕ → Type 0) (count : S → E → ℕ) (moves : E → Call → Answer → Bool)
     (Holds : S → Type 0) : Type 0 where
-  pub counters : Counters next counter (λ u c. Opens c (answer u c)) (λ u c. Octets (c .frame)) Holds
+  pub counters : Counters next window (λ u c. Opens c (answer u c)) (λ u c. Octets (c .frame)) Holds
   pub within : {u : S} (c : Call) → Holds u → (q : D) (n : ℕ) → Opens c (answer u c) q n → In c q
-  pub rests : {u w : S} (c : Call) → Holds u → Holds w → ((q : D) → In c q → counter u q ≡ counter w q) → answer u c ≡ answer w c
+  pub rests : {u w : S} (c : Call) → Holds u → Holds w → ((q : D) → In c q → window u q ≡ window w q) → answer u c ≡ answer w c
   pub shows : {u w : S} (c : Call) → Holds u → Holds w → answer u c ≡ answer w c → output u c ≡ output w c
   pub counts : {u : S} (c : Call) → Holds u → (e : E) → count (next u c) e ≡ cond (moves e c (answer u c)) (plusOne (count u e)) (count u e)
-  pub whole : {u w : S} → Holds u → Holds w → ((q : D) → counter u q ≡ counter w q) → ((e : E) → count u e ≡ count w e) → u ≡ w
+  pub whole : {u w : S} → Holds u → Holds w → ((q : D) → window u q ≡ window w q) → ((e : E) → count u e ≡ count w e) → u ≡ w
 
 -- two orders of the same deliveries
 module _ {D : Type 0} {In : Call → D → Type 0} {xs ys : List Call} (ρ : Rearranged In xs ys) where
@@ -68,9 +69,9 @@ module _ {D : Type 0} {In : Call → D → Type 0} {xs ys : List Call} (ρ : Rea
 
 -- within its channels a delivery sees one order as the other
 module _ {S D E : Type 0} {In : Call → D → Type 0} {next : S → Call → S} {run : S → List Call → S} {answer : S → Call → Answer}
-    {output : S → Call → List ℕ} {counter : S → D → ℕ} {Opens : Call → Answer → D → ℕ → Type 0} {count : S → E → ℕ}
+    {output : S → Call → List ℕ} {window : S → D → Window} {Opens : Call → Answer → D → ℕ → Type 0} {count : S → E → ℕ}
     {moves : E → Call → Answer → Bool} {Holds : S → Type 0}
-    (runs : Runs next run) (ch : Channelled In next answer output counter Opens count moves Holds)
+    (runs : Runs next run) (ch : Channelled In next answer output window Opens count moves Holds)
     (s : S) (start : Holds s) (xs ys : List Call) (ox : OctetFrames xs) (ρ : Rearranged In xs ys) where
   -- the state before call i, its answer, and what it opens
   abbrev U : List Call → ℕ → S
@@ -85,7 +86,7 @@ module _ {S D E : Type 0} {In : Call → D → Type 0} {next : S → Call → S}
   held-at : (zs : List Call) → OctetFrames zs → (i : ℕ) → i ≤ length zs → Holds (U zs i)
   held-at zs o = held runs (ch .counters) noCall s zs start (λ i l. o i)
 
-  replays-at : (zs : List Call) → OctetFrames zs → (q : D) → Replays (length zs) (λ i. counter (U zs i) q) (O zs q)
+  replays-at : (zs : List Call) → OctetFrames zs → (q : D) → Replays (length zs) (λ i. window (U zs i) q) (O zs q)
   replays-at zs o = replays runs (ch .counters) noCall s zs start (λ i l. o i)
 
   oy : OctetFrames ys
@@ -98,7 +99,7 @@ module _ {S D E : Type 0} {In : Call → D → Type 0} {next : S → Call → S}
   held-y i l = held-at ys oy i (omega (arith, ρ .lengths))
 
   state : (q : D) (i j : ℕ) → i ≤ length xs → j ≤ length xs → Covers (O xs q) i (O ys q) j → Covers (O ys q) j (O xs q) i
-      → counter (U xs i) q ≡ counter (U ys j) q
+      → window (U xs i) q ≡ window (U ys j) q
   state q i j l h = determined (replays-at xs ox q) (replays-at ys oy q) refl i j l (omega (arith, ρ .lengths))
 
   forth-opens : (q : D) (a n : ℕ) → a < length xs → A xs a ≡ A ys (ρ .to a) → O xs q a n → O ys q (ρ .to a) n
@@ -118,21 +119,21 @@ module _ {S D E : Type 0} {In : Call → D → Type 0} {next : S → Call → S}
           (λ q c. state q i (ρ .to i) (omega arith) (omega arith) (forth q c) (backwards q c)))
         where
           forth : (q : D) → In (at xs i) q → Covers (O xs q) i (O ys q) (ρ .to i)
-          forth q c a n h o =
+          forth q c n (a, (h, o)) =
               let la : a < length xs = omega arith in
-              (ρ .to a, ρ .order a i q h l (ch .within (at xs a) (held-x a (omega arith)) q n o) c, forth-opens q a n la (ih a h la) o)
+              (ρ .to a, (ρ .order a i q h l (ch .within (at xs a) (held-x a (omega arith)) q n o) c, forth-opens q a n la (ih a h la) o))
 
           backwards : (q : D) → In (at xs i) q → Covers (O ys q) (ρ .to i) (O xs q) i
-          backwards q c a n h o =
+          backwards q c n (a, (h, o)) =
               let la : a < length xs = omega (arith, ρ .to-below i l) in
               let sooner = sooner ρ i a q l h c (ch .within (at ys a) (held-y a (omega arith)) q n o) in
-              (ρ .from a, sooner, back-opens q a n la (ih (ρ .from a) sooner (ρ .from-below a la)) o)
+              (ρ .from a, (sooner, back-opens q a n la (ih (ρ .from a) sooner (ρ .from-below a la)) o))
 
-  last-counters : (q : D) → counter (U xs (length xs)) q ≡ counter (U ys (length xs)) q
-  last-counters q =
+  last-windows : (q : D) → window (U xs (length xs)) q ≡ window (U ys (length xs)) q
+  last-windows q =
       state q (length xs) (length xs) (omega arith) (omega arith)
-      (λ a n l o. (ρ .to a, ρ .to-below a l, forth-opens q a n l (answers a l) o))
-      (λ a n l o. (ρ .from a, ρ .from-below a l, back-opens q a n l (answers (ρ .from a) (ρ .from-below a l)) o))
+      (λ n (a, (l, o)). (ρ .to a, (ρ .to-below a l, forth-opens q a n l (answers a l) o)))
+      (λ n (a, (l, o)). (ρ .from a, (ρ .from-below a l, back-opens q a n l (answers (ρ .from a) (ρ .from-below a l)) o)))
 
   tally-at : (zs : List Call) → OctetFrames zs → (e : E) → Tally (length zs) (λ i. moves e (at zs i) (A zs i)) (λ i. count (U zs i) e)
   tally-at zs o e i l = rw (run-suc runs noCall s zs i l) (ch .counts (at zs i) (held-at zs o i (omega arith)) e)
@@ -144,7 +145,7 @@ module _ {S D E : Type 0} {In : Call → D → Type 0} {next : S → Call → S}
       (how-many-moved ρ (λ i. moves e (at xs i) (A xs i)) (λ i. moves e (at ys i) (A ys i)) (λ i l. rw (answers i l, ρ .moved i l)))
 
   same-end : U xs (length xs) ≡ U ys (length xs)
-  same-end = ch .whole (held-x (length xs) (omega arith)) (held-y (length xs) (omega arith)) last-counters last-counts
+  same-end = ch .whole (held-x (length xs) (omega arith)) (held-y (length xs) (omega arith)) last-windows last-counts
 
   pub orders-alike :
       ((i : ℕ) → i < length xs → let j = ρ .to i in

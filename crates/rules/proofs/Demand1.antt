@@ -83,7 +83,8 @@ demand-1 = (
         key-kept = refl;
         id-kept = refl;
         peer-kept = refl;
-        counters-kept = λ x e. rw e;
+        size-kept = refl;
+        windows-kept = λ x e. (rw e, rw e);
         output-kept = λ x e. rw e;
         one-moved =
             record {

@@ -35,7 +35,7 @@ use Rattle.rules.proofs.Sound.{sound-places, used-below, placed}
 
 -- the tests of opening that are left where the entry is found, and what is done where none applies
 abbrev pub openLeft : Entry → List ℕ → List Test
-openLeft e f = replayTest (e .receiver .replay) f ++ codeTest (e .receiver .key) f
+openLeft e f = replayTest (e .receiver) f ++ codeTest (e .receiver .key) f
 
 abbrev pub sealedDone : Entry → List ℕ → Answer
 sealedDone e f = Done (e .last + 1) (priority f) (length f + added)

@@ -14,8 +14,10 @@ pub mod Sends
 pub mod Sums
 pub mod Tallies
 pub mod States
-pub mod Steps
+pub mod Bits
+pub mod Standing
 pub mod Counters
+pub mod Steps
 pub mod Channels
 pub mod Runs
 pub mod Delivery
@@ -33,4 +35,5 @@ pub mod TableDemand1
 pub mod TableDelivery
 pub mod TableOrders
 pub mod TableCounting
+pub mod SizeOne
 pub mod Examples

@@ -6,8 +6,7 @@ use mathlib.Core.Logic.{_≢_}
 use mathlib.Core.Option.{some}
 use Prim.Native.Nat.{ℕ, _+_, _-_, _*_, _%_, _/_, _<_, _≤_}
 use native.Mathlib.Omega.{arith}
-use borrow.Author.Tests.{eq-eqb, ne-eqb, le-ltb, lt-leb}
-use lib.Dec.{leb}
+use borrow.Author.Tests.{eq-eqb, ne-eqb, le-ltb}
 use lib.ListN.{length, take, drop, getD, length-drop, length-set, length-append, List·getD-append, take-append-drop}
 use lib.Seq.{getD-take, getD-set-same, getD-set-other, length-take-le, take-at, drop-at}
 use Rattle.octets.specs.Options.{contents}
@@ -16,7 +15,7 @@ use Rattle.rules.specs.Header.{part, headerLength, address1, address2, p
 use Rattle.rules.specs.Nonce.{nonce, ccmpHeader, ccmpOf, textOf, extended, keyIdIn, number}
 use Rattle.rules.specs.Mode.{codeOctets, added, sealedText}
 use Rattle.rules.specs.Tests.{bodyOf}
-use Rattle.rules.specs.Records.{soundReceiver}
+use Rattle.rules.specs.Records.{soundReceiver, isReplay}
 use Rattle.rules.specs.Sealing.{sealedFrame, sealAnswer, sealOutput, Sealable}
 use Rattle.rules.specs.Opening.{openedFrame, openAnswer, openOutput}
 use Rattle.rules.specs.Demand2.{Match, OpeningUndoesSealing}
@@ -156,7 +155,7 @@ module _ (s : Sender) (f : List ℕ) (n : ℕ) (ok : Sealable s f) where
       opened-frame = rw (sealed-opens, sealed-header, front-is, head-back) (take-append-drop (headerLength f) f)
 
       pub sealed-answer : (room : List ℕ) → length f ≤ length room
-          → openAnswer r (sealedFrame s n f) room ≡ cond (leb n (getD (r .replay) (priority f) 0)) (Refused 10) (Done n (priority f) (length f))
+          → openAnswer r (sealedFrame s n f) room ≡ cond (isReplay r (priority f) n) (Refused 10) (Done n (priority f) (length f))
       unfolding openAnswer
       sealed-answer room enough =
           rw (
@@ -192,14 +191,13 @@ written-is s f room n p k e =
 
 pub opening-undoes-sealing : OpeningUndoesSealing
 unfolding openOutput
-opening-undoes-sealing s r f room room′ n p k e sound m enough below =
+opening-undoes-sealing s r f room room′ n p k e sound m enough taken =
     let d = seal-done s f room n p k e in
     let fits : n ≤ mostNumber = omega (arith, d .number-is, d .sealable .unspent) in
     let is = written-is s f room n p k e in
-    let counter = ap (λ (x : ℕ). getD (r .replay) x 0) (sym (d .priority-is)) in
     let answer : openAnswer r (sealedFrame s n f) room′ ≡ Done n p (length f)
     = sealed-answer s f n (d .sealable) fits r sound m room′ enough
-    ∙ rw (lt-leb n (getD (r .replay) (priority f) 0) (omega arith), d .priority-is) in (
+    ∙ rw (← d .priority-is, taken) in (
       ap (λ (g : List ℕ). openAnswer r g room′) is ∙ answer,
       rw (is, answer) (ap (λ (g : List ℕ). g ++ drop (length f) room′) (opened-frame s f n (d .sealable) fits r sound m)),
     )

@@ -5,7 +5,7 @@ use mathlib.Core.List.{List, [], _∷_, _++_, append-nil, append-assoc}
 use Prim.Native.Nat.{ℕ, zero, suc, _+_, _-_, _<_, _≤_}
 use native.Mathlib.Nat.{not-suc-le-zero, add-zero, add-assoc, zero-add, suc-add}
 use native.Mathlib.Omega.{arith}
-use borrow.Author.Tests.{le-leb, lt-leb}
+use borrow.Author.Tests.{le-leb}
 use lib.Dec.{leb}
 use lib.ListN.{length, take, drop, getD, length-append}
 use lib.Seq.{take-at, drop-at}
@@ -13,7 +13,8 @@ use Rattle.octets.proofs.Booleans.{both}
 use Rattle.rules.specs.Limits.{mostNumber, mostKeyId}
 use Rattle.rules.specs.Header.{priority}
 use Rattle.rules.specs.Mode.{added}
-use Rattle.rules.specs.Records.{soundSender, soundReceiver, withLast, senderNext}
+use Rattle.rules.specs.Windows.{takes}
+use Rattle.rules.specs.Records.{soundSender, windowOf, soundReceiver, withLast, senderNext, isReplay}
 use Rattle.rules.specs.Sealing.{sealedFrame, sealAnswer, sealOutput, Sealable}
 use Rattle.rules.specs.Opening.{openAnswer, openOutput}
 use Rattle.rules.specs.Splitting.{pieces, sealedFrames, splitAnswer, splitterNext, splitOutput}
@@ -234,23 +235,20 @@ module _ (s : Sender) (l : ℕ) (x : Sent) (g : Genuine (withLast s l) x) where
 
   -- what a sound matching receiver with room answers to it
   module _ (r : Receiver) (room : List ℕ) (sound : soundReceiver r ≡ true) (m : Match s r) (enough : length (x .original) ≤ length room) where
-    abbrev counter : ℕ
-    counter = getD (r .replay) (x .priority) 0
-
     abbrev done : Answer
     done = Done (x .number) (x .priority) (length (x .original))
 
-    pub sent-answer : openAnswer r (x .octets) room ≡ cond (leb (x .number) counter) (Refused 10) done
+    pub sent-answer : openAnswer r (x .octets) room ≡ cond (isReplay r (x .priority) (x .number)) (Refused 10) done
     sent-answer =
         let t = withLast s l in
         rw (g .octets-are, g .priority-is)
         (sealed-answer t (x .original) (x .number) (g .sealable) (fits t x g) r sound (still-matches s l r m) room enough)
 
-    pub opens : counter < x .number → Opens r x room
+    pub opens : takes (windowOf r (x .priority)) (x .number) ≡ true → Opens r x room
     unfolding openOutput
-    opens below =
+    opens taken =
         let t = withLast s l in
-        let answer : openAnswer r (x .octets) room ≡ done = sent-answer ∙ rw (lt-leb (x .number) counter below) in
+        let answer : openAnswer r (x .octets) room ≡ done = sent-answer ∙ rw taken in
         (answer, rw (answer, g .octets-are, opened-frame t (x .original) (x .number) (g .sealable) (fits t x g) r sound (still-matches s l r m)))
 
 pub frames-like-others : FramesLikeOthers

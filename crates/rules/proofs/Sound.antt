@@ -3,18 +3,19 @@ use mathlib.Core.Path.{_≡_, refl, sym, ap, _∙_}
 use mathlib.Core.Bool.{Bool, true, false, cond, not, _&&_, _||_, true≢false, and-false}
 use mathlib.Core.List.{List, [], _∷_}
 use mathlib.Core.Logic.{_≢_, _⊎_, inl, inr, ⊎-elim}
-use Prim.Native.Nat.{ℕ, zero, suc, _<_, _≤_}
+use Prim.Native.Nat.{ℕ, zero, suc, _<_}
 use native.Mathlib.Decide.{ℕ-discrete, decLt}
 use native.Mathlib.Nat.{not-suc-le-zero, le-of-suc-le-suc}
 use native.Mathlib.Omega.{arith}
-use borrow.Author.Tests.{eqb-true, eq-eqb, leb-true, ltb-true, ltb-false, le-leb, not-true, not-false}
-use lib.Dec.{eqb}
+use borrow.Author.Tests.{eqb-true, eq-eqb, ltb-true, ltb-false, not-true, not-false}
+use lib.Dec.{leb, eqb}
 use lib.ListN.{length, getD, set, replicate, List·getD-eq-default}
 use Rattle.octets.specs.Octets.{Octets, same}
 use Rattle.octets.proofs.Booleans.{both, iff}
 use Rattle.octets.proofs.Same.{same-refl, same-is}
-use Rattle.rules.specs.Limits.{mostKeyId, priorities, tableEntries}
-use Rattle.rules.specs.Records.{soundSender, soundReceiver}
+use Rattle.rules.specs.Limits.{mostKeyId, keyOctets, addressOctets, tableEntries}
+use Rattle.rules.specs.Windows.{isSize}
+use Rattle.rules.specs.Records.{soundSender, receiverFits, soundReceiver, zeroReceiver}
 use Rattle.rules.specs.Sealing.{sealNext}
 use Rattle.rules.specs.Opening.{openNext}
 use Rattle.rules.specs.Sending.{sealing}
@@ -31,7 +32,7 @@ use Rattle.rules.specs.declared.Table.{Table}
 use Rattle.rules.specs.declared.Triple.{Triple}
 use Rattle.rules.specs.declared.Pairing.{Pairing}
 use Rattle.rules.proofs.Passing.{Passed, passed, done-all}
-use Rattle.rules.proofs.Steps.{keeps-sound, keeps-size}
+use Rattle.rules.proofs.Steps.{Windowed, windows-sound, new-windowed, keeps-windowed, keeps-sound}
 use Rattle.rules.proofs.Sends.{next-sound}
 use Rattle.rules.proofs.Searching.{none-first, only-first, IsFor, for-is, is-for, not-found}
 use Rattle.rules.proofs.Projecting.{served, served-made, served-sender, step-receiver}
@@ -178,7 +179,7 @@ module _ (t : Table) (s : Sound t) (x : Triple) where
 
 -- what adding, where it is done, has found
 pub record AddDone (t : Table) (x : Pairing) : Type 0 where
-  pub id-fits : x .triple .«key_id» ≤ mostKeyId
+  pub fits : receiverFits (x .triple .«key_id») (x .size) ≡ true
   pub new-key : (j : ℕ) → hasKey (x .key) (entryAt t j) ≡ false
   pub within : addPlace t (x .triple) < length (t .entries)
   pub alone : (j : ℕ) → j ≢ addPlace t (x .triple) → isFor (x .triple) (entryAt t j) ≡ false
@@ -199,25 +200,29 @@ add-done t x n p k e = go (passed (addTests t x) (done-all (addTests t x) (Done 
     go : Passed (addTests t x) → AddDone t x
     go (sound, (fits, (key, (full, end)))) =
         record {
-          id-fits = leb-true _ _ (not-false _ fits);
+          fits = not-false _ fits;
           new-key = none-first (hasKey (x .key)) (t .entries) refl (ltb-false _ _ key);
           within = ltb-true _ _ (not-false _ full);
           alone = alone (not-false _ sound) (isPlace t (placeOf t (x .triple))) refl;
         }
 
--- a sound table, each of whose entries has a counter for each priority
+-- a sound table, each of whose entries, in use or not, has a sound window for each priority
 pub record Good (t : Table) : Type 0 where
   pub sound : soundTable t ≡ true
-  pub sized : (j : ℕ) → length (entryAt t j .receiver .replay) ≡ priorities
+  pub windowed : (j : ℕ) → Windowed (entryAt t j .receiver)
+
+zero-windowed : Windowed zeroReceiver
+zero-windowed = new-windowed (replicate keyOctets 0) 0 (replicate addressOctets 0) 0
 
 -- an entry stays sound where its records do
 either-sound : (u s r s′ r′ : Bool) → (s ≡ true → s′ ≡ true) → (r ≡ true → r′ ≡ true) → not u || (s && r) ≡ true → not u || (s′ && r′) ≡ true
 either-sound true s r s′ r′ f g h = let q = both s r h in rw (f (q .0), g (q .1))
 either-sound false s r s′ r′ f g h = refl
 
-served-sound : (e : Entry) (c : Call) (seals opens : Bool) → Octets (c .frame) → soundEntry e ≡ true → soundEntry (served seals opens e c) ≡ true
+served-sound : (e : Entry) (c : Call) (seals opens : Bool) → Octets (c .frame) → Windowed (e .receiver) → soundEntry e ≡ true
+    → soundEntry (served seals opens e c) ≡ true
 unfolding soundEntry
-served-sound e c seals opens octets =
+served-sound e c seals opens octets windowed =
     either-sound (e .used) (soundSender (senderOf e)) (soundReceiver (e .receiver))
     (soundSender (senderOf (served seals opens e c))) (soundReceiver (served seals opens e c .receiver))
     (λ h. rw (served-sender e c seals opens) (sender seals h)) (receiver opens)
@@ -228,7 +233,7 @@ served-sound e c seals opens octets =
 
     receiver : (b : Bool) → soundReceiver (e .receiver) ≡ true
         → soundReceiver (cond b (openNext (e .receiver) (c .frame) (c .room)) (e .receiver)) ≡ true
-    receiver true h = keeps-sound (e .receiver) (c .frame) (c .room) octets h
+    receiver true h = keeps-sound (e .receiver) (c .frame) (c .room) windowed octets h
     receiver false h = h
 
 -- a clash rests on what an entry is made as
@@ -243,31 +248,34 @@ module _ (t : Table) (g : Good t) where
   serve-sound : (i : ℕ) (seals opens : Bool) (c : Call) → Octets (c .frame) → soundTable (put t i (served seals opens (entryAt t i) c)) ≡ true
   serve-sound i seals opens c octets =
       let e = entryAt t i in
-      put-sound t places i (served seals opens e c) (served-sound e c seals opens octets (places .each i))
+      put-sound t places i (served seals opens e c) (served-sound e c seals opens octets (g .windowed i) (places .each i))
       (λ j ne. clash-made (served seals opens e c) e (entryAt t j) (served-made e c seals opens) ∙ places .clear i j (λ z. ne (sym z)))
 
-  serve-size : (j : ℕ) (b : Bool) (f room : List ℕ) → let r = entryAt t j .receiver in length (cond b (openNext r f room) r .replay) ≡ priorities
-  serve-size j true f room = keeps-size (entryAt t j .receiver) f room ∙ g .sized j
-  serve-size j false f room = g .sized j
+  serve-windowed : (j : ℕ) (b : Bool) (f room : List ℕ) → Octets f → let r = entryAt t j .receiver in Windowed (cond b (openNext r f room) r)
+  serve-windowed j true f room octets = keeps-windowed (entryAt t j .receiver) f room (g .windowed j) octets
+  serve-windowed j false f room octets = g .windowed j
 
-  -- a sound entry with all its counters that clashes with none of the others
-  new-good : (i : ℕ) (e : Entry) → length (e .receiver .replay) ≡ priorities → soundEntry e ≡ true → ((j : ℕ) → j ≢ i → clash e (entryAt t j) ≡ false)
+  -- a sound entry with all its windows that clashes with none of the others
+  new-good : (i : ℕ) (e : Entry) → Windowed (e .receiver) → soundEntry e ≡ true → ((j : ℕ) → j ≢ i → clash e (entryAt t j) ≡ false)
       → Good (put t i e)
-  new-good i e size ok clear =
+  new-good i e windowed ok clear =
       record {
         sound = put-sound t places i e ok clear;
-        sized = λ j. ⊎-elim (λ q. rw (q .1) size) (λ q. rw q (g .sized j)) (put-cases (t .entries) i e j);
+        windowed = λ j. ⊎-elim (λ q. rw (q .1) windowed) (λ q. rw q (g .windowed j)) (put-cases (t .entries) i e j);
       }
 
   add-good : (x : Pairing) → Good (addNext t x)
-  unfolding clash soundEntry soundSender soundReceiver
+  unfolding clash soundEntry soundSender
   add-good x = go (addAnswer t x) refl
     where
       go : (a : Answer) → addAnswer t x ≡ a → Good (putIf a t (addPlace t (x .triple)) (newEntry x))
       go (Refused b) e = g
       go (Done n p k) e =
           let d = add-done t x n p k e in
-          new-good (addPlace t (x .triple)) (newEntry x) refl (rw (le-leb _ mostKeyId (d .id-fits))) (λ j ne. rw (d .alone j ne, d .new-key j))
+          let windowed = new-windowed (x .key) (x .triple .«key_id») (x .triple .peer) (x .size) in
+          let id-fits = both (leb (x .triple .«key_id») mostKeyId) (isSize (x .size)) (d .fits) .0 in
+          new-good (addPlace t (x .triple)) (newEntry x) windowed (rw (id-fits, windows-sound (newEntry x .receiver) (d .fits) windowed))
+          (λ j ne. rw (d .alone j ne, d .new-key j))
 
   remove-good : (x : Triple) → Good (removeNext t x)
   unfolding clash soundEntry
@@ -275,14 +283,14 @@ module _ (t : Table) (g : Good t) where
     where
       go : (a : Answer) → Good (putIf a t (placeOf t x) freeEntry)
       go (Refused b) = g
-      go (Done n p k) = new-good (placeOf t x) freeEntry refl refl (λ j ne. refl)
+      go (Done n p k) = new-good (placeOf t x) freeEntry zero-windowed refl (λ j ne. refl)
 
   pub next-good : (c : TableCall) → Octets (lent c .frame) → Good (tableNext t c)
   unfolding soundTable tableSealNext tableOpenNext
   next-good (toSeal keyId c) octets =
       record {
         sound = go (sealComes t keyId (c .frame) (c .room));
-        sized = λ j. rw (step-receiver t j (toSeal keyId c) refl) (g .sized j);
+        windowed = λ j. rw (step-receiver t j (toSeal keyId c) refl) (g .windowed j);
       }
     where
       go : (b : Bool) → soundTable (cond b (sealedAt t (sealPlace t keyId (c .frame)) (c .frame) (c .room)) t) ≡ true
@@ -291,7 +299,7 @@ module _ (t : Table) (g : Good t) where
   next-good (toOpen c) octets =
       record {
         sound = go (openComes t (c .frame) (c .room));
-        sized = λ j. rw (step-receiver t j (toOpen c) refl) (serve-size j (opensAt t j (toOpen c)) (c .frame) (c .room));
+        windowed = λ j. rw (step-receiver t j (toOpen c) refl) (serve-windowed j (opensAt t j (toOpen c)) (c .frame) (c .room) octets);
       }
     where
       go : (b : Bool) → let counted = formatCounted t (tableOpenAnswer t (c .frame) (c .room)) in
@@ -307,12 +315,12 @@ run-good t (c ∷ cs) g o = run-good (tableNext t c) cs (next-good t g c (o 0)) 
 
 fresh-good : Good freshTable
 unfolding freshTable soundTable soundEntry clash
-fresh-good = record { sound = refl; sized = sized tableEntries }
+fresh-good = record { sound = refl; windowed = free tableEntries }
   where
-    sized : (n j : ℕ) → length (getD (replicate n freeEntry) j freeEntry .receiver .replay) ≡ priorities
-    sized zero j = refl
-    sized (suc n) zero = refl
-    sized (suc n) (suc j) = sized n j
+    free : (n j : ℕ) → Windowed (getD (replicate n freeEntry) j freeEntry .receiver)
+    free zero j = zero-windowed
+    free (suc n) zero = zero-windowed
+    free (suc n) (suc j) = free n j
 
 -- every table that calls leave of the fresh one
 pub reached : (cs : List TableCall) → OctetCalls cs → Good (tableRun freshTable cs)

@@ -1,17 +1,19 @@
--- Demand 3, first half, for an entry: over calls that don't change it, its counters are those of its own deliveries.
+-- Demand 3, first half, for an entry: over calls that don't change it, its windows are those of its own deliveries.
 use mathlib.Core.Path.{_≡_, refl, sym, ap, _∙_}
-use mathlib.Core.Bool.{Bool, true, false, cond}
+use mathlib.Core.Bool.{Bool, true, false, cond, true≢false}
 use mathlib.Core.List.{List}
-use mathlib.Core.Logic.{_↔_, _⊎_, inl, inr, ⊎-elim}
+use mathlib.Core.Logic.{_↔_, inl, inr, ⊎-elim}
 use Prim.Native.Nat.{ℕ, _+_, _<_}
 use native.Mathlib.Omega.{arith}
-use borrow.Author.Tests.{le-leb}
-use lib.ListN.{length, getD}
+use lib.Dec.{leb}
+use lib.ListN.{length}
 use lib.Seq.{getD-set-same}
 use Rattle.octets.specs.Octets.{Octets, none}
+use Rattle.octets.proofs.Booleans.{both}
 use Rattle.rules.specs.Limits.{mostKeyId, priorities}
 use Rattle.rules.specs.Header.{address1}
-use Rattle.rules.specs.Records.{withLast, freshSender, freshReceiver}
+use Rattle.rules.specs.Windows.{isSize, takes}
+use Rattle.rules.specs.Records.{windowOf, withLast, freshSender, freshReceiver}
 use Rattle.rules.specs.Opening.{openAnswer, openNext, openOutput}
 use Rattle.rules.specs.Calls.{noCall}
 use Rattle.rules.specs.Sending.{Sent}
@@ -21,14 +23,15 @@ use Rattle.rules.specs.Serving.{openPlace, tableOpenAnswer, tableOpenOut
 use Rattle.rules.specs.TableCalls.{TableCall, toOpen, toAdd, lent, tableAnswer, tableNext, tableRun, callAt, before, OctetCalls, opensAt, changes, Unchanged}
 use Rattle.rules.specs.Demand2.{Match}
 use Rattle.rules.specs.Tables.{AddedFresh, asMade}
-use Rattle.rules.specs.TableDemand3.{DeliversTo, AboveOpenedAt, TableOpensTo, TableReplayed, TableDelivered}
+use Rattle.rules.specs.TableDemand3.{DeliversTo, InWindowAt, TableOpensTo, TableReplayed, TableDelivered}
 use Rattle.rules.specs.declared.Sender.{Sender}
 use Rattle.rules.specs.declared.Receiver.{Receiver}
 use Rattle.rules.specs.declared.Table.{Table}
-use Rattle.rules.proofs.Steps.{DoneIn, leaves, sets-it}
-use Rattle.rules.proofs.Counters.{below-is, Counters, held, replays}
+use Rattle.rules.specs.declared.Window.{Window}
+use Rattle.rules.proofs.Steps.{DoneIn, zeros, moves}
+use Rattle.rules.proofs.Counters.{Moves, taken-when, Counters, held, replays}
 use Rattle.rules.proofs.Sends.{Genuine, sent-at, still-matches}
-use Rattle.rules.proofs.Delivery.{decided, zeros}
+use Rattle.rules.proofs.Delivery.{decided}
 use Rattle.rules.proofs.Projecting.{step-made, step-receiver, own-opening, table-runs}
 use Rattle.rules.proofs.Sound.{Good, next-good, reached, add-done}
 use Rattle.rules.proofs.Found.{both-sound, open-through, sealed-for}
@@ -37,30 +40,37 @@ use Rattle.rules.proofs.Found.{both-sound, open-through, sealed-for}
 abbrev pub OpensAt : ℕ → Table → TableCall → ℕ → ℕ → Type 0
 OpensAt i u c p n = (opensAt u i c ≡ true) × DoneIn (tableAnswer u c) p n
 
--- what one call that doesn't change the entry at place i leaves of its counter for priority p
+-- the window for priority p of the entry at place i
+abbrev pub windowAt : Table → ℕ → ℕ → Window
+windowAt u i p = windowOf (entryAt u i .receiver) p
+
+-- what one call that doesn't change the entry at place i leaves of its window for priority p
 module _ (u : Table) (good : Good u) (i : ℕ) (c : TableCall) (same : changes u i c ≡ false) (p : ℕ) where
   abbrev r : Receiver
   r = entryAt u i .receiver
 
-  abbrev counter : Table → ℕ
-  counter w = getD (entryAt w i .receiver .replay) p 0
+  window-next : (b : Bool) → opensAt u i c ≡ b → windowAt (tableNext u c) i p ≡ windowOf (cond b (openNext r (lent c .frame) (lent c .room)) r) p
+  window-next b h = ap (λ x. windowOf x p) (step-receiver u i c same) ∙ rw h
 
-  counter-next : (b : Bool) → opensAt u i c ≡ b → counter (tableNext u c) ≡ getD (cond b (openNext r (lent c .frame) (lent c .room)) r .replay) p 0
-  counter-next b h = ap (λ x. getD (x .replay) p 0) (step-receiver u i c same) ∙ rw h
-
-  pub entry-leaves : (counter (tableNext u c) ≡ counter u) ⊎ ((n : ℕ) × OpensAt i u c p n)
-  entry-leaves = go (opensAt u i c) refl
+  pub entry-moves : Moves (windowAt u i p) (windowAt (tableNext u c) i p) (OpensAt i u c p)
+  entry-moves = go (opensAt u i c) refl
     where
-      go : (b : Bool) → opensAt u i c ≡ b → (counter (tableNext u c) ≡ counter u) ⊎ ((n : ℕ) × OpensAt i u c p n)
-      go false h = inl (counter-next false h)
+      go : (b : Bool) → opensAt u i c ≡ b → Moves (windowAt u i p) (windowAt (tableNext u c) i p) (OpensAt i u c p)
+      go false h = inl (window-next false h, (λ n o. true≢false (sym (o .0) ∙ h)))
       go true h =
-          ⊎-elim (λ e. inl (counter-next true h ∙ e)) (λ (n, (k, e)). inr (n, (h, (k, own-opening u i c h .0 ∙ e))))
-          (leaves r (lent c .frame) (lent c .room) p)
-
-  pub entry-sets : (n : ℕ) → OpensAt i u c p n → (counter u < n) × (counter (tableNext u c) ≡ n)
-  entry-sets n (h, (k, e)) =
-      let q = sets-it r (lent c .frame) (lent c .room) p (good .sized i) n (k, sym (own-opening u i c h .0) ∙ e) in
-      (q .0, counter-next true h ∙ q .1)
+          let own = own-opening u i c h .0 in
+          let back : (n : ℕ) → OpensAt i u c p n → DoneIn (openAnswer r (lent c .frame) (lent c .room)) p n = λ n (o, (k, e)). (k, sym own ∙ e) in
+          ⊎-elim (λ (e, never). inl (window-next true h ∙ e, (λ n o. never n (back n o))))
+          (λ t.
+          inr
+          (record {
+            number = t .number;
+            opens = (h, (t .opens .0, own ∙ t .opens .1));
+            alone = λ m o. t .alone m (back m o);
+            taken = t .taken;
+            after = window-next true h ∙ t .after;
+          }))
+          (moves r (lent c .frame) (lent c .room) (good .windowed i) p)
 
 -- a good table whose entry at place i is as in t, but for what sealing and opening move
 record Stays (t : Table) (i : ℕ) (u : Table) : Type 0 where
@@ -68,18 +78,18 @@ record Stays (t : Table) (i : ℕ) (u : Table) : Type 0 where
   made : asMade (entryAt u i) ≡ asMade (entryAt t i)
 
 counters : (t : Table) (i : ℕ)
-    → Counters tableNext (λ u p. getD (entryAt u i .receiver .replay) p 0) (OpensAt i)
+    → Counters tableNext (λ u. windowAt u i) (OpensAt i)
     (λ u c. (changes u i c ≡ false) × Octets (lent c .frame)) (Stays t i)
 counters t i =
     record {
       keeps = λ {u} c h f. record { good = next-good u (h .good) c (f .1); made = step-made u i c (f .0) ∙ h .made };
-      leaves = λ {u} c h f. entry-leaves u (h .good) i c (f .0);
-      sets = λ {u} c h f. entry-sets u (h .good) i c (f .0);
+      sound = λ h. h .good .windowed i .windows;
+      moves = λ {u} c h f. entry-moves u (h .good) i c (f .0);
     }
 
 -- the entry at place i, in use, over calls that don't change it: it may receive, and nothing was opened yet
 module _ (t : Table) (i : ℕ) (good : Good t) (used : entryAt t i .used ≡ true) (may : entryAt t i .«may_receive» ≡ true)
-    (empty : (p : ℕ) → getD (entryAt t i .receiver .replay) p 0 ≡ 0) (ds : List TableCall) (od : OctetCalls ds) (same : Unchanged t i ds) where
+    (empty : (p : ℕ) → windowAt t i p .greatest ≡ 0) (ds : List TableCall) (od : OctetCalls ds) (same : Unchanged t i ds) where
   start : Stays t i t
   start = record { good = good; made = refl }
 
@@ -116,17 +126,16 @@ module _ (t : Table) (i : ℕ) (good : Good t) (used : entryAt t i .used ≡ tru
         (sealed-for (withLast s last) (x .original) (x .number) (g .sealable) (entryAt u i) used-still
         (still-matches s last (entryAt u i .receiver) match) (own ∙ sym (ap (λ e. e .own) (stays .made)))))
 
-    below : (getD (entryAt u i .receiver .replay) (x .priority) 0 < x .number) ↔ AboveOpenedAt t i ds j x
-    below =
-        let counter = replays table-runs (counters t i) (toOpen noCall) t ds start fit (x .priority) in
-        let q = below-is counter (empty (x .priority)) j (x .number) (omega (arith, d .below)) (omega (arith, g .number-is)) in
-        ((λ h j′ n k l o e. q .0 h j′ n l (o, (k, e))), (λ h. q .1 (λ j′ n l o. h j′ n (o .1 .0) l (o .0) (o .1 .1))))
+    when : (takes (windowAt u i (x .priority)) (x .number) ≡ true) ↔ InWindowAt t i ds j x
+    when =
+        let window = replays table-runs (counters t i) (toOpen noCall) t ds start fit (x .priority) in
+        taken-when window (empty (x .priority)) j (x .number) (omega (arith, d .below)) (omega (arith, g .number-is))
 
-    delivered-at : (TableOpensTo t ds j x ↔ AboveOpenedAt t i ds j x) × (¬ (AboveOpenedAt t i ds j x) → TableReplayed t ds j)
+    delivered-at : (TableOpensTo t ds j x ↔ InWindowAt t i ds j x) × (¬ (InWindowAt t i ds j x) → TableReplayed t ds j)
     delivered-at =
         rw (d .opens, through .1, through .2)
         (decided s last x g (entryAt u i .receiver) (d .room) (both-sound u (stays .good .sound) i used-still .1) match (d .enough)
-        (AboveOpenedAt t i ds j x) below)
+        (InWindowAt t i ds j x) when)
 
 pub added-fresh : AddedFresh
 unfolding freshSender freshReceiver
@@ -134,13 +143,13 @@ added-fresh t x e =
     let d = add-done t x 0 0 0 e in
     let i = addPlace t (x .triple) in
     let new : entryAt (addNext t x) i ≡ newEntry x = rw e (getD-set-same (t .entries) i (newEntry x) freeEntry (d .within)) in
-    let fits = le-leb (x .triple .«key_id») mostKeyId (d .id-fits) in
-    (new, ap senderOf new ∙ rw fits, ap (λ e. e .receiver) new ∙ rw fits)
+    let id-fits = both (leb (x .triple .«key_id») mostKeyId) (isSize (x .size)) (d .fits) .0 in
+    (new, ap senderOf new ∙ rw id-fits, ap (λ e. e .receiver) new ∙ rw (d .fits))
 
 pub table-delivered : TableDelivered
 table-delivered cs o x may e s cs′ ds y j m (a, l, is) own od same d =
     let t = tableRun freshTable cs in
     let new = added-fresh t x e .0 in
     delivered-at (addNext t x) (addPlace t (x .triple)) (next-good t (reached cs o) (toAdd x) none)
-    (ap (λ e. e .used) new) (ap (λ e. e .«may_receive») new ∙ may) (λ p. ap (λ e. getD (e .receiver .replay) p 0) new ∙ zeros priorities p)
+    (ap (λ e. e .used) new) (ap (λ e. e .«may_receive») new ∙ may) (λ p. ap (λ e. windowOf (e .receiver) p .greatest) new ∙ zeros priorities p)
     ds od same s (s .last + a) y j m (rw is at (sent-at s cs′ a l)) own d

@@ -1,12 +1,11 @@
--- Demand 3, second half, for a table: what a delivery is answered rests on the counter of its entry and priority alone.
-use mathlib.Core.Path.{_≡_, refl, sym, ap, _∙_}
+-- Demand 3, second half, for a table: what a delivery is answered rests on the window of its entry and priority alone.
+use mathlib.Core.Path.{_≡_, refl, sym, ap, _∙_, subst}
 use mathlib.Core.Bool.{Bool, true, false, cond, _&&_}
 use mathlib.Core.List.{List, [], _∷_, map}
-use mathlib.Core.Logic.{inl, inr, ⊎-elim}
 use mathlib.Core.Option.{Option, none, some}
 use Prim.Native.Nat.{ℕ, zero, suc}
 use borrow.Author.Tests.{eq-eqb}
-use lib.ListN.{length, take, getD, length-set, List·getD-map}
+use lib.ListN.{length, take, length-set, List·getD-map}
 use lib.Seq.{ext-getD}
 use Rattle.octets.specs.Octets.{Octets}
 use Rattle.rules.specs.Header.{priority}
@@ -22,19 +21,20 @@ use Rattle.rules.specs.TableDemand3.{Through, TableReordered}
 use Rattle.rules.specs.declared.Receiver.{Receiver}
 use Rattle.rules.specs.declared.Answer.{Answer}
 use Rattle.rules.specs.declared.Table.{Table}
+use Rattle.rules.specs.declared.Window.{Window}
 use Rattle.rules.proofs.Passing.{any-done, open-done}
 use Rattle.rules.proofs.Steps.{DoneIn}
 use Rattle.rules.proofs.States.{Runs}
 use Rattle.rules.proofs.Tallies.{plusOne}
-use Rattle.rules.proofs.Counters.{Counters}
+use Rattle.rules.proofs.Counters.{Moves, Counters}
 use Rattle.rules.proofs.Channels.{Channelled, orders-alike}
-use Rattle.rules.proofs.Runs.{Count, answersOf, valueOf, same-counts, count-moves, Keeps, same-counter, same-output}
+use Rattle.rules.proofs.Runs.{Count, answersOf, valueOf, same-counts, count-moves, Keeps, same-windows, same-window, same-output}
 use Rattle.rules.proofs.Searching.{first-alike, open-comes}
 use Rattle.rules.proofs.Projecting.{step, step-made, step-receiver, own-opening}
 use Rattle.rules.proofs.Sound.{Good, next-good, reached}
 use Rattle.rules.proofs.Found.{both-sound}
 use Rattle.rules.proofs.TableDemand1.{format-moved}
-use Rattle.rules.proofs.TableDelivery.{entry-leaves, entry-sets}
+use Rattle.rules.proofs.TableDelivery.{windowAt, entry-moves}
 
 -- one delivery on a table
 abbrev next : Table → Call → Table
@@ -91,7 +91,7 @@ module _ {t u : Table} (good : Good t) (k : Kin t u) (c : Call) where
   opens-alike : (i : ℕ) → opensAt u i (toOpen c) ≡ opensAt t i (toOpen c)
   opens-alike i = rw (comes-alike, place-alike)
 
-  -- where it comes to an entry, the receiver there is t's but for counters and counts, and the answer and the output are its own
+  -- where it comes to an entry, the receiver there is t's but for windows and counts, and the answer and the output are its own
   module _ (comes : openComes t (c .frame) (c .room) ≡ true) where
     abbrev r : Receiver
     r = entryAt u (openPlace t (c .frame)) .receiver
@@ -105,8 +105,9 @@ module _ {t u : Table} (good : Good t) (k : Kin t u) (c : Call) where
           key-is = ap (λ e. e .receiver .key) made;
           id-is = ap (λ e. e .receiver .«key_id») made;
           peer-is = ap (λ e. e .receiver .peer) made;
+          size-is = ap (λ e. e .receiver .size) made;
           sound = both-sound u (k .good .sound) i used .1;
-          size = k .good .sized i;
+          windowed = k .good .windowed i;
         }
 
     own : (answer u c ≡ openAnswer r (c .frame) (c .room)) × (output u c ≡ openOutput r (c .frame) (c .room))
@@ -114,9 +115,9 @@ module _ {t u : Table} (good : Good t) (k : Kin t u) (c : Call) where
         let i = openPlace t (c .frame) in
         own-opening u i (toOpen c) (rw (comes-alike, place-alike, comes) (eq-eqb i i refl))
 
--- the counter of a place and a priority
-abbrev counter : Table → ℕ × ℕ → ℕ
-counter u q = getD (entryAt u (q .0) .receiver .replay) (q .1) 0
+-- the window of a place and a priority
+abbrev window : Table → ℕ × ℕ → Window
+window u q = windowAt u (q .0) (q .1)
 
 -- the delivery comes to the place in t, and the answer is done with n in the priority
 abbrev Opens : Table → Call → Answer → ℕ × ℕ → ℕ → Type 0
@@ -136,15 +137,15 @@ moves t none c a = among countedByTable (answerNumber a)
 moves t (some (i, d)) c a = opensAt t i (toOpen c) && among (answersOf d) (answerNumber a)
 
 module _ {t : Table} (good : Good t) where
-  counters : Counters next counter (λ u c. Opens t c (answer u c)) (λ u c. Octets (c .frame)) (Kin t)
+  counters : Counters next window (λ u c. Opens t c (answer u c)) (λ u c. Octets (c .frame)) (Kin t)
   counters =
       record {
         keeps = kin-next;
-        leaves =
+        sound = λ k q. k .good .windowed (q .0) .windows (q .1);
+        moves =
             λ {u} c k o q.
-            ⊎-elim inl (λ w. inr (w .0, (sym (opens-alike good k c (q .0)) ∙ w .1 .0, w .1 .1)))
-            (entry-leaves u (k .good) (q .0) (toOpen c) refl (q .1));
-        sets = λ {u} c k o q n w. entry-sets u (k .good) (q .0) (toOpen c) refl (q .1) n (opens-alike good k c (q .0) ∙ w .0, w .1);
+            subst (λ b. Moves (window u q) (window (next u c) q) (λ n. (b ≡ true) × DoneIn (answer u c) (q .1) n)) (opens-alike good k c (q .0))
+            (entry-moves u (k .good) (q .0) (toOpen c) refl (q .1));
       }
 
   within : {u : Table} (c : Call) → Kin t u → (q : ℕ × ℕ) (n : ℕ) → Opens t c (answer u c) q n → Through t c q
@@ -152,7 +153,7 @@ module _ {t : Table} (good : Good t) where
       let own = own-opening u (q .0) (toOpen c) (opens-alike good k c (q .0) ∙ h) .0 in
       (h, sym (open-done (entryAt u (q .0) .receiver) (c .frame) (c .room) n (q .1) m (sym own ∙ e) .priority-is))
 
-  rests : {u w : Table} (c : Call) → Kin t u → Kin t w → ((q : ℕ × ℕ) → Through t c q → counter u q ≡ counter w q) → answer u c ≡ answer w c
+  rests : {u w : Table} (c : Call) → Kin t u → Kin t w → ((q : ℕ × ℕ) → Through t c q → window u q ≡ window w q) → answer u c ≡ answer w c
   unfolding tableOpenAnswer
   rests {u} {w} c ku kw h = go (openComes t (c .frame) (c .room)) refl
     where
@@ -160,7 +161,7 @@ module _ {t : Table} (good : Good t) where
       go true e =
           let i = openPlace t (c .frame) in
           own good ku c e .0
-          ∙ same-counter (keeps good ku c e) (keeps good kw c e) (c .frame) (c .room) (h (i, priority (c .frame)) (rw e (eq-eqb i i refl), refl))
+          ∙ same-window (keeps good ku c e) (keeps good kw c e) (c .frame) (c .room) (h (i, priority (c .frame)) (rw e (eq-eqb i i refl), refl))
           ∙ sym (own good kw c e .0)
       go false e =
           let d = openAnswer (entryAt u (openPlace u (c .frame)) .receiver) (c .frame) (c .room) in
@@ -189,7 +190,7 @@ module _ {t : Table} (good : Good t) where
       go true h = rw (own-opening u i (toOpen c) h .0) (count-moves (entryAt u i .receiver) (c .frame) (c .room) d)
       go false h = refl
 
-  module _ {u w : Table} (ku : Kin t u) (kw : Kin t w) (same-counter : (q : ℕ × ℕ) → counter u q ≡ counter w q)
+  module _ {u w : Table} (ku : Kin t u) (kw : Kin t w) (same-at : (q : ℕ × ℕ) → window u q ≡ window w q)
       (same-count : (e : Which) → count u e ≡ count w e) where
     same-entry : (i : ℕ) → entryAt u i ≡ entryAt w i
     same-entry i =
@@ -197,7 +198,7 @@ module _ {t : Table} (good : Good t) where
         let b = entryAt w i .receiver in
         let made = ku .made i ∙ sym (kw .made i) in
         let last = ku .last i ∙ sym (kw .last i) in
-        let replay = ext-getD 0 (a .replay) (b .replay) (ku .good .sized i ∙ sym (kw .good .sized i)) (λ p l. same-counter (i, p)) in
+        let (replay, seen) = same-windows (ku .good .windowed i) (kw .good .windowed i) (λ p. same-at (i, p)) in
         let counts = same-counts (a .counts) (b .counts) (λ d. same-count (some (i, d))) in
         λ j.
         record {
@@ -211,7 +212,9 @@ module _ {t : Table} (good : Good t) where
                 key = made j .receiver .key;
                 «key_id» = made j .receiver .«key_id»;
                 peer = made j .receiver .peer;
+                size = made j .receiver .size;
                 replay = replay j;
+                seen = seen j;
                 counts = counts j;
               };
         }
@@ -221,7 +224,7 @@ module _ {t : Table} (good : Good t) where
         let entries = ext-getD freeEntry (u .entries) (w .entries) (ku .size ∙ sym (kw .size)) (λ i l. same-entry i) in
         λ j. record { entries = entries j; «format_errors» = same-count none j }
 
-  channelled : Channelled (Through t) next answer output counter (Opens t) count (moves t) (Kin t)
+  channelled : Channelled (Through t) next answer output window (Opens t) count (moves t) (Kin t)
   channelled = record { counters = counters; within = within; rests = rests; shows = shows; counts = counts; whole = same-table }
 
 -- the deliveries as calls on a table

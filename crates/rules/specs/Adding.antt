@@ -2,8 +2,7 @@
 use mathlib.Core.Bool.{cond, not}
 use mathlib.Core.List.{List, [], _∷_}
 use Prim.Native.Nat.{ℕ}
-use lib.Dec.{leb}
-use Rattle.rules.specs.Limits.{mostKeyId}
+use Rattle.rules.specs.Records.{receiverFits}
 use Rattle.rules.specs.Answers.{Test, inOrder, firstOf}
 use Rattle.rules.specs.Tests.{recordTest, entryTest, fullTest, keyTest}
 use Rattle.rules.specs.Table.{newEntry, freeEntry, put, hasKey, isFree, soundTable, firstPlace, isPlace, placeOf}
@@ -29,7 +28,7 @@ abbrev pub addTests : Table → Pairing → List Test
 addTests t x =
     inOrder
     (recordTest (soundTable t)
-    ∷ recordTest (leb (x .triple .«key_id») mostKeyId)
+    ∷ recordTest (receiverFits (x .triple .«key_id») (x .size))
     ∷ keyTest (isPlace t (keyPlace t (x .key)))
     ∷ fullTest (not (isPlace t (addPlace t (x .triple))))
     ∷ [])

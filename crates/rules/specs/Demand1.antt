@@ -68,7 +68,8 @@ pub record OpeningKeeps (r : Receiver) (room : List ℕ) (a : Answer) (t : Recei
   pub key-kept : t .key ≡ r .key
   pub id-kept : t .«key_id» ≡ r .«key_id»
   pub peer-kept : t .peer ≡ r .peer
-  pub counters-kept : (x : ℕ) → a ≡ Refused x → t .replay ≡ r .replay
+  pub size-kept : t .size ≡ r .size
+  pub windows-kept : (x : ℕ) → a ≡ Refused x → (t .replay ≡ r .replay) × (t .seen ≡ r .seen)
   pub output-kept : (x : ℕ) → a ≡ Refused x → out ≡ room
   pub one-moved : Moved (answerNumber a) (r .counts) (t .counts)
 

@@ -3,10 +3,10 @@ use mathlib.Core.Path.{_≡_}
 use mathlib.Core.Bool.{Bool, true}
 use mathlib.Core.List.{List, _++_}
 use mathlib.Core.Logic.{_↔_}
-use Prim.Native.Nat.{ℕ, _<_, _≤_}
+use Prim.Native.Nat.{ℕ, _+_, _<_, _≤_}
 use lib.ListN.{length, drop}
 use Rattle.rules.specs.Header.{priority}
-use Rattle.rules.specs.Records.{freshAnswer, freshSender, freshReceiver}
+use Rattle.rules.specs.Records.{receiverAnswer, freshSender, freshReceiver}
 use Rattle.rules.specs.Answers.{noneApplies}
 use Rattle.rules.specs.Tests.{headerTests}
 use Rattle.rules.specs.Calls.{Call, at, OctetFrames, openRun, openAnswerAt, openOutputAt}
@@ -21,9 +21,17 @@ pub record Delivers (x : Sent) (ds : List Call) (j : ℕ) : Type 0 where
   pub unchanged : at ds j .frame ≡ x .octets
   pub enough : length (x .original) ≤ length (at ds j .room)
 
--- x's number is above every number that the calls before j opened in its priority
-abbrev pub AboveOpened : Receiver → List Call → ℕ → Sent → Type 0
-AboveOpened r ds j x = (j′ n′ k′ : ℕ) → j′ < j → openAnswerAt r ds j′ ≡ Done n′ (x .priority) k′ → n′ < x .number
+-- n is none of the numbers opened, and is less than the size below the greatest of them
+abbrev pub Within : ℕ → (ℕ → Type 0) → ℕ → Type 0
+Within size Opened n = (¬ (Opened n)) × ((m : ℕ) → Opened m → m < n + size)
+
+-- a call before j opened the number n in priority p
+abbrev pub OpenedBefore : Receiver → List Call → ℕ → ℕ → ℕ → Type 0
+OpenedBefore r ds j p n = (j′ : ℕ) × ((j′ < j) × ((k : ℕ) × (openAnswerAt r ds j′ ≡ Done n p k)))
+
+-- x wasn't opened before in its priority, and is less than the size of the window below the greatest number opened there
+abbrev pub InWindow : Receiver → List Call → ℕ → Sent → Type 0
+InWindow r ds j x = Within (r .size) (OpenedBefore r ds j (x .priority)) (x .number)
 
 -- call j opens to x's original: done with its number, priority and length, and the room holds it and then the rest as it was
 abbrev pub OpensTo : Receiver → List Call → ℕ → Sent → Type 0
@@ -55,12 +63,12 @@ pub record Rearranged {D : Type 0} (In : Call → D → Type 0) (xs ys : List Ca
   pub moved : (i : ℕ) → i < length xs → at ys (to i) ≡ at xs i
   pub order : (i j : ℕ) (q : D) → i < j → j < length xs → In (at xs i) q → In (at xs j) q → to i < to j
 
--- first half: a frame that calls on the sender sealed, delivered unchanged, opens to its original exactly when its number is above all
--- those opened before in its priority, and is otherwise a replay, whatever else arrives between
-abbrev pub Delivered : Sender → Receiver → Type 0
-Delivered s r =
+-- first half: a frame that calls on the sender sealed, delivered unchanged, opens to its original exactly when `When` is so of it, and is
+-- otherwise a replay, whatever else arrives between
+abbrev pub Delivered : (Receiver → List Call → ℕ → Sent → Type 0) → Sender → Receiver → Type 0
+Delivered When s r =
     (cs : List SenderCall) (ds : List Call) (x : Sent) (j : ℕ) → Among x (sent s cs) → OctetFrames ds → Delivers x ds j
-    → (OpensTo r ds j x ↔ AboveOpened r ds j x) × (¬ (AboveOpened r ds j x) → IsReplayed r ds j)
+    → (OpensTo r ds j x ↔ When r ds j x) × (¬ (When r ds j x) → IsReplayed r ds j)
 
 -- second half: two orders that agree within each priority give each delivery the same answer and output, and leave the same record
 abbrev pub Reordered : Receiver → Type 0
@@ -71,5 +79,6 @@ Reordered r =
 
 abbrev pub Demand3 : Type 0
 Demand3 =
-    (key address : List ℕ) (keyId : ℕ) → freshAnswer keyId ≡ Done 0 0 0
-    → Delivered (freshSender key keyId address) (freshReceiver key keyId address) × Reordered (freshReceiver key keyId address)
+    (key address : List ℕ) (keyId size : ℕ) → receiverAnswer keyId size ≡ Done 0 0 0
+    → let r = freshReceiver key keyId address size in
+    Delivered InWindow (freshSender key keyId address) r × Reordered r

@@ -3,10 +3,11 @@ use mathlib.Core.Path.{_≡_}
 use mathlib.Core.Bool.{true}
 use mathlib.Core.List.{List, _++_}
 use Prim.Native.Nat.{ℕ, _+_, _-_, _<_, _≤_}
-use lib.ListN.{length, take, drop, getD}
+use lib.ListN.{length, take, drop}
 use Rattle.octets.specs.Octets.{Octets}
 use Rattle.rules.specs.Mode.{added}
-use Rattle.rules.specs.Records.{soundReceiver, withLast, freshAnswer, freshSender}
+use Rattle.rules.specs.Windows.{takes}
+use Rattle.rules.specs.Records.{windowOf, soundReceiver, withLast, freshAnswer, freshSender}
 use Rattle.rules.specs.Sealing.{sealAnswer, sealOutput}
 use Rattle.rules.specs.Opening.{openAnswer, openOutput}
 use Rattle.rules.specs.Splitting.{message, splitAnswer}
@@ -26,11 +27,11 @@ SealedAlone s x =
     → (sealAnswer (withLast s (x .number - 1)) (x .original) room ≡ Done (x .number) (x .priority) (length (x .original) + added))
     × (sealOutput (withLast s (x .number - 1)) (x .original) room ≡ x .octets ++ drop (length (x .original) + added) room)
 
--- and it opens to its original, for every sound matching receiver with room and a replay counter below the number
+-- and it opens to its original, for every sound matching receiver with room that takes the number
 abbrev pub OpensAlone : Sender → Sent → Type 0
 OpensAlone s x =
     (r : Receiver) (room : List ℕ)
-    → soundReceiver r ≡ true → Match s r → length (x .original) ≤ length room → getD (r .replay) (x .priority) 0 < x .number
+    → soundReceiver r ≡ true → Match s r → length (x .original) ≤ length room → takes (windowOf r (x .priority)) (x .number) ≡ true
     → (openAnswer r (x .octets) room ≡ Done (x .number) (x .priority) (length (x .original)))
     × (openOutput r (x .octets) room ≡ x .original ++ drop (length (x .original)) room)
 

@@ -40,7 +40,7 @@ newEntry x =
       «may_receive» = x .«may_receive»;
       own = x .triple .own;
       last = 0;
-      receiver = newReceiver (x .key) (x .triple .«key_id») (x .triple .peer);
+      receiver = newReceiver (x .key) (x .triple .«key_id») (x .triple .peer) (x .size);
     }
 
 -- a free entry of zeros

@@ -3,13 +3,14 @@ use mathlib.Core.Path.{_≡_}
 use mathlib.Core.Bool.{true, false}
 use mathlib.Core.List.{List, [], _∷_, _++_}
 use mathlib.Core.Logic.{_↔_}
-use Prim.Native.Nat.{ℕ, _+_, _-_, _%_, _≤_}
+use Prim.Native.Nat.{ℕ, _+_, _-_, _%_}
 use lib.ListN.{length}
-use Rattle.rules.specs.Limits.{mostKeyId, countLimit}
+use Rattle.rules.specs.Limits.{countLimit}
 use Rattle.rules.specs.Header.{priority}
 use Rattle.rules.specs.Nonce.{number}
 use Rattle.rules.specs.Mode.{added}
 use Rattle.rules.specs.Answers.{firstOf, among, answerNumber}
+use Rattle.rules.specs.Records.{receiverFits}
 use Rattle.rules.specs.Tests.{replayTest, codeTest, spentTest}
 use Rattle.rules.specs.Table.{entryAt, soundTable, isPlace, placeOf}
 use Rattle.rules.specs.Adding.{keyPlace, freePlace, addAnswer, addNext, removeAnswer, removeNext}
@@ -33,13 +34,13 @@ TableOpenOrder =
     (t : Table) (f room : List ℕ)
     → let r = entryAt t (openPlace t f) .receiver in
     tableOpenAnswer t f room
-    ≡ firstOf (tableOpenTests t f (length room) ++ (replayTest (r .replay) f ++ codeTest (r .key) f)) (Done (number f) (priority f) (length f - added))
+    ≡ firstOf (tableOpenTests t f (length room) ++ (replayTest r f ++ codeTest (r .key) f)) (Done (number f) (priority f) (length f - added))
 
--- adding to a sound table under a key ID that fits: 17 where the key is in use, and otherwise 16 exactly where the triple is new and no
+-- adding to a sound table under a key ID and with a size that fit: 17 where the key is in use, and otherwise 16 exactly where the triple is new and no
 -- entry is free
 abbrev pub AddAnswers : Type 0
 AddAnswers =
-    (t : Table) (x : Pairing) → soundTable t ≡ true → x .triple .«key_id» ≤ mostKeyId
+    (t : Table) (x : Pairing) → soundTable t ≡ true → receiverFits (x .triple .«key_id») (x .size) ≡ true
     → (isPlace t (keyPlace t (x .key)) ≡ true → addAnswer t x ≡ Refused 17)
     × (isPlace t (keyPlace t (x .key)) ≡ false
     → addAnswer t x ≡ Refused 16 ↔ ((isPlace t (placeOf t (x .triple)) ≡ false) × (isPlace t (freePlace t) ≡ false)))

@@ -28,9 +28,9 @@ AddedFresh =
     → let e = entryAt (addNext t x) (addPlace t (x .triple)) in
     (e ≡ newEntry x)
     × (senderOf e ≡ freshSender (x .key) (x .triple .«key_id») (x .triple .own))
-    × (e .receiver ≡ freshReceiver (x .key) (x .triple .«key_id») (x .triple .peer))
+    × (e .receiver ≡ freshReceiver (x .key) (x .triple .«key_id») (x .triple .peer) (x .size))
 
--- an entry without what sealing and opening move: its flags, addresses, key ID and key
+-- an entry without what sealing and opening move: its flags, addresses, key ID, key and size
 abbrev pub asMade : Entry → Entry
 asMade e =
     record {
@@ -39,7 +39,7 @@ asMade e =
       «may_receive» = e .«may_receive»;
       own = e .own;
       last = 0;
-      receiver = newReceiver (e .receiver .key) (e .receiver .«key_id») (e .receiver .peer);
+      receiver = newReceiver (e .receiver .key) (e .receiver .«key_id») (e .receiver .peer) (e .receiver .size);
     }
 
 -- the entry at place i of t over the calls cs: it is what it was made as, its two records are what its own calls leave by document 01, and

@@ -13,6 +13,7 @@ use Rattle.rules.specs.Nonce.{nonce, ccmpOf, textOf, extended, keyIdIn, 
 use Rattle.rules.specs.Mode.{openedBody}
 use Rattle.rules.specs.Records.{isReplay}
 use Rattle.rules.specs.Answers.{Test, _⇒_, outside}
+use Rattle.rules.specs.declared.Receiver.{Receiver}
 
 -- whether the record is sound
 abbrev pub recordTest : Bool → List Test
@@ -47,9 +48,9 @@ extendedTest f = (eqb (extended (ccmpOf f)) 0 ⇒ 8) ∷ []
 abbrev pub keyIdTest : ℕ → List ℕ → List Test
 keyIdTest keyId f = (not (eqb (keyIdIn (ccmpOf f)) keyId) ⇒ 9) ∷ []
 
--- the packet number, against the replay counters
-abbrev pub replayTest : List ℕ → List ℕ → List Test
-replayTest counters f = (isReplay counters (priority f) (number f) ⇒ 10) ∷ []
+-- the packet number, against the receiver's windows
+abbrev pub replayTest : Receiver → List ℕ → List Test
+replayTest r f = (isReplay r (priority f) (number f) ⇒ 10) ∷ []
 
 -- the body of a sealed frame, where its integrity code is right
 unfoldable pub bodyOf : List ℕ → List ℕ → Option (List ℕ)

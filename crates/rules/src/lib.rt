@@ -28,9 +28,20 @@ pub struct Receiver {
     pub key: [u8; KEY_OCTETS],
     pub key_id: u8,
     pub peer: [u8; ADDRESS_OCTETS],
-    // The replay counter of each priority.
+    // The size of its windows, 1 or 16.
+    pub size: u8,
+    // The replay counter of each priority: the greatest number opened.
     pub replay: [u64; PRIORITIES],
+    // Which of the 16 numbers up to it were opened: bit i is of the number i below the greatest.
+    pub seen: [u16; PRIORITIES],
     pub counts: Counts,
+}
+
+// What a receiver has for one priority.
+pub struct Window {
+    pub size: u8,
+    pub greatest: u64,
+    pub seen: u16,
 }
 
 // How many opening calls were answered so, modulo 2^32.
@@ -70,6 +81,8 @@ pub struct Triple {
 pub struct Pairing {
     pub triple: Triple,
     pub key: [u8; KEY_OCTETS],
+    // The size of its windows.
+    pub size: u8,
     pub may_send: bool,
     pub may_receive: bool,
 }

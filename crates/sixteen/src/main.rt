@@ -42,6 +42,7 @@ fn pairing(n: u8, key: [u8; 16]) -> Pairing {
     Pairing {
         triple,
         key,
+        size: ccmp::SMALL_WINDOW,
         may_send: true,
         may_receive: true,
     }
@@ -54,7 +55,7 @@ fn new_camera(n: u8, key: [u8; 16]) -> Camera {
     let made = ccmp::fresh_sender(key, 0, address);
     let sender = made.sender;
     let peer = triple.own;
-    let met = ccmp::fresh_receiver(key, 0, peer);
+    let met = ccmp::fresh_receiver(key, 0, peer, ccmp::SMALL_WINDOW);
     let receiver = met.receiver;
     Camera { sender, receiver }
 }

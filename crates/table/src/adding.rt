@@ -6,7 +6,7 @@ use crate::search::free_place;
 use crate::search::key_place;
 use crate::search::place_of;
 use crate::sound::sound_table;
-use ccmp::MOST_KEY_ID;
+use ccmp::receiver_fits;
 use rules::Answer;
 use rules::ENTRIES;
 use rules::Pairing;
@@ -59,7 +59,7 @@ pub fn add(mut t: Table, x: Pairing) -> Answered
     let mut answer = Answer::Done(0, 0, 0);
     if unsound(t) {
         answer = Answer::Refused(1);
-    } else if MOST_KEY_ID < triple.key_id {
+    } else if !receiver_fits(triple.key_id, x.size) {
         answer = Answer::Refused(1);
     } else if key_place(t, key) < ENTRIES {
         answer = Answer::Refused(17);

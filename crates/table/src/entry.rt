@@ -45,7 +45,7 @@ pub(crate) fn new_entry(x: Pairing) -> Entry
     let own = triple.own;
     let peer = triple.peer;
     let key = x.key;
-    let receiver = ccmp::new_receiver(key, triple.key_id, peer);
+    let receiver = ccmp::new_receiver(key, triple.key_id, peer, x.size);
     Entry {
         used: true,
         may_send: x.may_send,
@@ -59,7 +59,7 @@ pub(crate) fn new_entry(x: Pairing) -> Entry
 pub(crate) fn free_entry() -> Entry
     ensures { λ e. ⌜ e ≡ freeEntry ⌝ }
 {
-    let receiver = ccmp::new_receiver([0; KEY_OCTETS], 0, [0; ADDRESS_OCTETS]);
+    let receiver = ccmp::new_receiver([0; KEY_OCTETS], 0, [0; ADDRESS_OCTETS], 0);
     Entry {
         used: false,
         may_send: false,

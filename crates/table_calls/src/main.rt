@@ -2,8 +2,9 @@
 // lent to it, and standard output gets the answer, the table and the room afterwards, until the input ends.
 //
 // A number is written with its low octet first. A table is its entries, each as three flags, own address, key ID, peer, key, last number,
-// replay counters and counts, and then its format count. A request is a table, the call's letter (n, a, r, s or o), the pairing's own
-// address, peer, key ID, key and flags, the lengths of frame and room, and these two; an answer is four numbers, the table and the room.
+// replay counters, counts, size and the bits of the windows, and then its format count. A request is a table, the call's letter (n, a, r, s
+// or o), the pairing's own address, peer, key ID, key, flags and size, the lengths of frame and room, and these two; an answer is four
+// numbers, the table and the room.
 use libc::STDIN_FILENO;
 use libc::STDOUT_FILENO;
 use rules::ADDRESS_OCTETS;
@@ -22,11 +23,11 @@ ghost use Prim.Native.Nat.{_+_, _≤_, _<_};
 ghost use lib.ListN.{length};
 
 // The octets of an entry and of a table as they are written, and of a request before its frame.
-const ENTRY: usize = 184;
+const ENTRY: usize = 217;
 
 const TABLE: usize = ENTRIES * ENTRY + 4;
 
-const REQUEST: usize = TABLE + 40;
+const REQUEST: usize = TABLE + 41;
 
 // The most octets of a frame or a room.
 const SPACE: usize = 8192;
@@ -79,6 +80,36 @@ fn u64_at(b: &[u8], i: usize) -> u64
     u32_at(b, i) + u32_at(b, i + 4) * 4294967296
 }
 
+fn u16_at(b: &[u8], i: usize) -> u16
+    requires { ⌜ i + 2 ≤ length (now b) ⌝ }
+{
+    (wide(b[i]) + wide(b[i + 1]) * 256) as u16
+}
+
+// The bits of the windows.
+fn bits_at(b: &[u8], i: usize) -> [u16; PRIORITIES]
+    requires { ⌜ i + 32 ≤ length (now b) ⌝ }
+{
+    [
+        u16_at(b, i),
+        u16_at(b, i + 2),
+        u16_at(b, i + 4),
+        u16_at(b, i + 6),
+        u16_at(b, i + 8),
+        u16_at(b, i + 10),
+        u16_at(b, i + 12),
+        u16_at(b, i + 14),
+        u16_at(b, i + 16),
+        u16_at(b, i + 18),
+        u16_at(b, i + 20),
+        u16_at(b, i + 22),
+        u16_at(b, i + 24),
+        u16_at(b, i + 26),
+        u16_at(b, i + 28),
+        u16_at(b, i + 30),
+    ]
+}
+
 fn counters_at(b: &[u8], i: usize) -> [u64; PRIORITIES]
     requires { ⌜ i + 128 ≤ length (now b) ⌝ }
 {
@@ -103,7 +134,7 @@ fn counters_at(b: &[u8], i: usize) -> [u64; PRIORITIES]
 }
 
 fn entry_at(b: &[u8], i: usize) -> Entry
-    requires { ⌜ i + 184 ≤ length (now b) ⌝ }
+    requires { ⌜ i + 217 ≤ length (now b) ⌝ }
 {
     let counts = Counts {
         format_errors: u32_at(b, i + 168) as u32,
@@ -114,11 +145,14 @@ fn entry_at(b: &[u8], i: usize) -> Entry
     let peer = octets_6(b, i + 10);
     let key = octets_16(b, i + 16);
     let replay = counters_at(b, i + 40);
+    let seen = bits_at(b, i + 185);
     let receiver = Receiver {
         key,
         key_id: b[i + 9],
         peer,
+        size: b[i + 184],
         replay,
+        seen,
         counts,
     };
     let own = octets_6(b, i + 3);
@@ -133,7 +167,7 @@ fn entry_at(b: &[u8], i: usize) -> Entry
 }
 
 fn table_at(b: &[u8]) -> Table
-    requires { ⌜ 2948 ≤ length (now b) ⌝ }
+    requires { ⌜ 3476 ≤ length (now b) ⌝ }
 {
     let mut t = table::new_table();
     let mut i: usize = 0;
@@ -216,8 +250,18 @@ fn receiver_octet(r: Receiver, last: u64, i: usize) -> u8 {
         let replay = r.replay;
         return octet(replay[(i - 31) / 8], (i - 31) % 8);
     }
-    let c = r.counts;
-    count_octet(c, i - 159)
+    if i < 175 {
+        let c = r.counts;
+        return count_octet(c, i - 159);
+    }
+    if i < 176 {
+        return r.size;
+    }
+    if i < 208 {
+        let seen = r.seen;
+        return octet(seen[(i - 176) / 2] as u64, (i - 176) % 2);
+    }
+    0
 }
 
 // Octet i of an entry.
@@ -278,7 +322,7 @@ fn write_answer(a: Answer) {
 
 // The call of a request, on its table.
 fn called(b: &[u8], frame: &[u8], room: &mut [u8]) -> Answered
-    requires { ⌜ 2988 ≤ length (now b) ⌝ }
+    requires { ⌜ 3517 ≤ length (now b) ⌝ }
 {
     let t = table_at(b);
     let own = octets_6(b, TABLE + 1);
@@ -293,6 +337,7 @@ fn called(b: &[u8], frame: &[u8], room: &mut [u8]) -> Answered
                 Pairing {
                     triple,
                     key,
+                    size: b[TABLE + 32],
                     may_send: b[TABLE + 30] != 0,
                     may_receive: b[TABLE + 31] != 0,
                 },
@@ -313,7 +358,7 @@ fn called(b: &[u8], frame: &[u8], room: &mut [u8]) -> Answered
 
 // Reads what is lent, makes the call and writes what it leaves.
 fn serve(request: &[u8], frame: &mut [u8], room: &mut [u8])
-    requires { ⌜ 2988 ≤ length (now request) ⌝ }
+    requires { ⌜ 3517 ≤ length (now request) ⌝ }
 {
     io::read_full(STDIN_FILENO, frame);
     io::read_full(STDIN_FILENO, room);
@@ -331,8 +376,8 @@ fn turn() -> bool {
     if io::read_full(STDIN_FILENO, &mut request) < REQUEST {
         return false;
     }
-    let f = u32_at(&request, TABLE + 32) as usize;
-    let r = u32_at(&request, TABLE + 36) as usize;
+    let f = u32_at(&request, TABLE + 33) as usize;
+    let r = u32_at(&request, TABLE + 37) as usize;
     if SPACE < f {
         return false;
     }

@@ -5,6 +5,7 @@ use crate::made::camera;
 use crate::made::heard;
 use crate::made::plain;
 use crate::made::triple;
+use ccmp::SMALL_WINDOW;
 use rules::Answer;
 use rules::ENTRIES;
 use rules::Entry;
@@ -35,6 +36,17 @@ fn same_counters(a: [u64; PRIORITIES], b: [u64; PRIORITIES]) -> bool {
     true
 }
 
+fn same_bits(a: [u16; PRIORITIES], b: [u16; PRIORITIES]) -> bool {
+    let mut i: usize = 0;
+    while i < PRIORITIES {
+        if a[i] != b[i] {
+            return false;
+        }
+        i += 1;
+    }
+    true
+}
+
 // Whether two entries are the same in what adding and removing set.
 fn same_pairing(a: Entry, b: Entry) -> bool {
     let r = a.receiver;
@@ -49,6 +61,7 @@ fn same_pairing(a: Entry, b: Entry) -> bool {
         && a.may_send == b.may_send
         && a.may_receive == b.may_receive
         && r.key_id == s.key_id
+        && r.size == s.size
         && same_address(own, other_own)
         && same_address(peer, other_peer)
         && same_key(key, other_key)
@@ -60,6 +73,8 @@ fn same_numbers(a: Entry, b: Entry) -> bool {
     let s = b.receiver;
     let counters = r.replay;
     let other_counters = s.replay;
+    let bits = r.seen;
+    let other_bits = s.seen;
     let c = r.counts;
     let d = s.counts;
     a.last == b.last
@@ -68,6 +83,7 @@ fn same_numbers(a: Entry, b: Entry) -> bool {
         && c.decrypt_errors == d.decrypt_errors
         && c.opened == d.opened
         && same_counters(counters, other_counters)
+        && same_bits(bits, other_bits)
 }
 
 fn print_address(a: [u8; 6]) {
@@ -91,6 +107,10 @@ fn print_pairing(e: Entry) {
     show::number(r.key_id as u64);
     show::text(b" key ");
     print_key(key);
+    if r.size != SMALL_WINDOW {
+        show::text(b" size ");
+        show::number(r.size as u64);
+    }
     if e.may_send {
         show::text(b" may send");
     }
@@ -99,8 +119,22 @@ fn print_pairing(e: Entry) {
     }
 }
 
-// The replay counters that are not 0.
-fn print_counters(counters: [u64; PRIORITIES]) {
+// The numbers below the greatest that a window holds.
+fn print_window(greatest: u64, bits: u16) {
+    let mut i: u16 = 1;
+    while i < 16 {
+        if (bits >> i) % 2 == 1 {
+            if i as u64 <= greatest {
+                show::text(b" and ");
+                show::number(greatest - i as u64);
+            }
+        }
+        i += 1;
+    }
+}
+
+// The replay counters that are not 0, each with what its window holds more.
+fn print_counters(counters: [u64; PRIORITIES], bits: [u16; PRIORITIES]) {
     let mut i: usize = 0;
     while i < PRIORITIES {
         if counters[i] != 0 {
@@ -108,6 +142,7 @@ fn print_counters(counters: [u64; PRIORITIES]) {
             show::number(i as u64);
             show::text(b" at ");
             show::number(counters[i]);
+            print_window(counters[i], bits[i]);
         }
         i += 1;
     }
@@ -116,10 +151,11 @@ fn print_counters(counters: [u64; PRIORITIES]) {
 fn print_numbers(e: Entry) {
     let r = e.receiver;
     let counters = r.replay;
+    let bits = r.seen;
     let c = r.counts;
     show::text(b" last ");
     show::number(e.last);
-    print_counters(counters);
+    print_counters(counters, bits);
     show::text(b" counts ");
     show::number(c.format_errors as u64);
     show::text(b" ");

@@ -1,4 +1,5 @@
 // What the cases are made of: stations, keys, tables and frames.
+use ccmp::SMALL_WINDOW;
 use rules::Entry;
 use rules::Pairing;
 use rules::Table;
@@ -27,16 +28,23 @@ pub(crate) fn triple(own: u8, peer: u8, key_id: u8) -> Triple {
     Triple { own, peer, key_id }
 }
 
-// Two stations with key n, both flags on.
+// Two stations with key n and windows of size 1, both flags on.
 pub(crate) fn pairing(own: u8, peer: u8, key_id: u8, n: u8) -> Pairing {
     let triple = triple(own, peer, key_id);
     let key = key(n);
     Pairing {
         triple,
         key,
+        size: SMALL_WINDOW,
         may_send: true,
         may_receive: true,
     }
+}
+
+pub(crate) fn sized(x: Pairing, size: u8) -> Pairing {
+    let mut y = x;
+    y.size = size;
+    y
 }
 
 pub(crate) fn flagged(x: Pairing, may_send: bool, may_receive: bool) -> Pairing {
@@ -72,8 +80,11 @@ pub(crate) fn entry(x: Pairing, last: u64, p: usize, n: u64) -> Entry
     let own = triple.own;
     let peer = triple.peer;
     let key = x.key;
-    let mut receiver = ccmp::new_receiver(key, triple.key_id, peer);
+    let mut receiver = ccmp::new_receiver(key, triple.key_id, peer, x.size);
     receiver.replay[p] = n;
+    if n != 0 {
+        receiver.seen[p] = 1;
+    }
     Entry {
         used: true,
         may_send: x.may_send,
@@ -90,6 +101,17 @@ pub(crate) fn free(x: Pairing, last: u64, p: usize, n: u64) -> Entry
 {
     let mut e = entry(x, last, p, n);
     e.used = false;
+    e
+}
+
+// An entry in use with these bits in the window of priority p, of which n is the greatest number.
+pub(crate) fn held(x: Pairing, p: usize, n: u64, bits: u16) -> Entry
+    requires { ⌜ p < priorities ⌝ }
+{
+    let mut e = entry(x, 0, p, n);
+    let mut receiver = e.receiver;
+    receiver.seen[p] = bits;
+    e.receiver = receiver;
     e
 }
 

@@ -2,6 +2,7 @@
 // what makes a table unsound.
 // What this must print, the file stdout, was taken from documents 01 and 02; ` | 02: ` is the answer that they give, 0 for done.
 use ccmp::MOST_NUMBER;
+use ccmp::SMALL_WINDOW;
 use line::adds;
 use line::adds_camera;
 use line::opens;
@@ -24,9 +25,11 @@ use made::entry;
 use made::flagged;
 use made::free;
 use made::heard;
+use made::held;
 use made::pairing;
 use made::plain;
 use made::put;
+use made::sized;
 use made::text_of;
 use made::triple;
 use made::with;
@@ -96,6 +99,7 @@ fn zeros() {
     let x = Pairing {
         triple: none,
         key: [0; 16],
+        size: SMALL_WINDOW,
         may_send: true,
         may_receive: true,
     };
@@ -433,6 +437,56 @@ fn in_turns() {
     print_sum(t, 8);
 }
 
+// Sizes that are no size are refused before a key that is in use, and after the key ID.
+fn sizes() {
+    show::text(b"Cameras with windows of another size than 1 and 16, camera 0 there\n");
+    let t = cameras(1);
+    let t = adds(b"with size 0", t, sized(camera(1, 1), 0), 1);
+    let t = adds(b"with size 2", t, sized(camera(1, 1), 2), 1);
+    let t = adds(b"with size 15", t, sized(camera(1, 1), 15), 1);
+    let t = adds(b"with size 17", t, sized(camera(1, 1), 17), 1);
+    let t = adds(b"with size 255", t, sized(camera(1, 1), 255), 1);
+    let t = adds(
+        b"with size 16 and key ID 4",
+        t,
+        sized(pairing(BOX, 65, 4, 1), 16),
+        1,
+    );
+    let t = adds(
+        b"with size 0 and the key in use",
+        t,
+        sized(camera(1, 0), 0),
+        1,
+    );
+    adds(
+        b"with size 16 and the key in use",
+        t,
+        sized(camera(1, 0), 16),
+        17,
+    );
+}
+
+// Late frames through an entry with windows of 16, beside one with windows of 1, and after a restart.
+fn windows() {
+    show::text(b"Camera 0 with windows of 1, and camera 1 with windows of 16\n");
+    let t = cameras(1);
+    let t = adds(b"camera 1 with size 16", t, sized(camera(1, 1), 16), 0);
+    let t = opens_from(t, 1, 1, 20, 0);
+    let t = opens_from(t, 0, 0, 20, 0);
+    let t = opens_from(t, 1, 1, 5, 0);
+    let t = opens_from(t, 1, 1, 5, 10);
+    let t = opens_from(t, 1, 1, 4, 10);
+    let t = opens_from(t, 1, 2, 19, 11);
+    let t = opens_from(t, 1, 1, 19, 0);
+    let t = opens_from(t, 0, 0, 19, 10);
+    let t = opens_from(t, 1, 1, 36, 0);
+    let t = opens_from(t, 1, 1, 20, 10);
+    let t = opens_from(t, 1, 1, 21, 0);
+    let t = adds(b"camera 1 with size 1 and key 3", t, camera(1, 3), 0);
+    let t = opens_from(t, 1, 3, 2, 0);
+    opens_from(t, 1, 3, 1, 10);
+}
+
 // Entries whose triples differ in one part.
 fn alike() {
     show::text(b"Camera 0 with key IDs 2 and 3, and for station 2\n");
@@ -487,6 +541,32 @@ fn in_use() {
     ends(b"In use with the first replay counter 2^48", first, 1);
     let last = entry(x, 0, 15, MOST_NUMBER + 1);
     ends(b"In use with the last replay counter 2^48", last, 1);
+    let none = entry(sized(x, 0), 0, 0, 0);
+    ends(b"In use with the size 0", none, 1);
+    let full = held(sized(x, 16), 15, 16, 65535);
+    ends(
+        b"In use with the numbers 1 to 16 in its last window",
+        full,
+        0,
+    );
+    let low = held(sized(x, 16), 15, 15, 65535);
+    ends(
+        b"In use with the numbers 0 to 15 in its last window",
+        low,
+        1,
+    );
+    let topless = held(sized(x, 16), 0, 16, 65534);
+    ends(
+        b"In use with the numbers 1 to 15 in its first window, and 16 as the greatest",
+        topless,
+        1,
+    );
+    let more = held(x, 15, 2, 3);
+    ends(
+        b"In use with two numbers in its last window of size 1",
+        more,
+        1,
+    );
     let known = entry(camera(30, 14), 0, 0, 0);
     ends(b"In use with the key of camera 14", known, 1);
     let present = entry(flagged(camera(1, 30), false, false), 0, 0, 0);
@@ -530,6 +610,8 @@ fn main() {
     counts();
     restarts();
     in_turns();
+    sizes();
+    windows();
     alike();
     in_use();
     not_in_use();

@@ -1,7 +1,10 @@
 // What timings run: a frame sealed again and again, or frames opened, through a table with sixteen entries in use or by the
-// record's own call. The input is requests of ten octets each, as `tsl000600`: `t` for the table or `r` for the record; `s` to
-// seal or `o` to open; `s` for a short body or `l` for a long one; how many calls, in six digits; a line feed.
+// record's own call. The input is requests of ten octets each, as `tsl000600`: `t` for the table or `r` for the record, or `T`
+// or `R` with windows of 16; `s` to seal or `o` to open; `s` for a short body or `l` for a long one; how many calls, in six
+// digits; a line feed.
 use ccmp::ADDED;
+use ccmp::LARGE_WINDOW;
+use ccmp::SMALL_WINDOW;
 use libc::STDIN_FILENO;
 use rules::Answer;
 use rules::ENTRIES;
@@ -30,8 +33,8 @@ const KEY: [u8; 16] = [16; 16];
 
 const BOX: [u8; 6] = *b"\x02box-1";
 
-// A table with every entry in use.
-fn full_table() -> Table {
+// A table with every entry in use, with windows of this size.
+fn full_table(window: u8) -> Table {
     let mut table = table::new_table();
     for i in 0..ENTRIES {
         let n = i as u8 + 1;
@@ -43,6 +46,7 @@ fn full_table() -> Table {
         let pairing = Pairing {
             triple,
             key: [n; 16],
+            size: window,
             may_send: true,
             may_receive: true,
         };
@@ -69,7 +73,7 @@ fn done(answer: Answer) -> u64 {
 
 // Seals the frame, and gives how often that was done.
 fn seals_by_table(calls: u64, frame: &[u8], out: &mut [u8]) -> u64 {
-    let mut table = full_table();
+    let mut table = full_table(SMALL_WINDOW);
     let mut count = 0;
     for _ in 0..calls {
         let sealed = table::seal(table, 0, frame, out);
@@ -120,10 +124,10 @@ fn next(at: usize, size: usize, air: usize) -> usize
 }
 
 // Opens the frames of air in order, each time around from a fresh table, and gives how often that was done.
-fn opens_by_table(calls: u64, size: usize, air: &[u8], out: &mut [u8]) -> u64
+fn opens_by_table(window: u8, calls: u64, size: usize, air: &[u8], out: &mut [u8]) -> u64
     requires { ⌜ size ≤ length (now air) ⌝ }
 {
-    let fresh = full_table();
+    let fresh = full_table(window);
     let mut table = fresh;
     let mut count = 0;
     let mut end = 0;
@@ -141,10 +145,10 @@ fn opens_by_table(calls: u64, size: usize, air: &[u8], out: &mut [u8]) -> u64
     count
 }
 
-fn opens_by_record(calls: u64, size: usize, air: &[u8], out: &mut [u8]) -> u64
+fn opens_by_record(window: u8, calls: u64, size: usize, air: &[u8], out: &mut [u8]) -> u64
     requires { ⌜ size ≤ length (now air) ⌝ }
 {
-    let fresh = ccmp::fresh_receiver(KEY, 0, LAST);
+    let fresh = ccmp::fresh_receiver(KEY, 0, LAST, window);
     let mut receiver = fresh.receiver;
     let mut count = 0;
     let mut end = 0;
@@ -187,7 +191,7 @@ fn seals(by_table: bool, size: usize, calls: u64)
 }
 
 // The box opens frames of this size from its last camera.
-fn opens(by_table: bool, size: usize, calls: u64)
+fn opens(by_table: bool, window: u8, size: usize, calls: u64)
     requires { ⌜ (24 ≤ size) × (size ≤ 1524) ⌝ }
 {
     let frame = frame_of(*b"\x08\x01\x00\x00\x02box-1\x02cam-\x10\x02box-1\x10\x00");
@@ -195,12 +199,20 @@ fn opens(by_table: bool, size: usize, calls: u64)
     fill(&frame[0..size], &mut air);
     let mut out = [0u8; LONG];
     if by_table {
-        let count = opens_by_table(calls, size + ADDED, &air, &mut out);
+        let count = opens_by_table(window, calls, size + ADDED, &air, &mut out);
         tell(count, &out[size - END..size]);
         return;
     }
-    let count = opens_by_record(calls, size + ADDED, &air, &mut out);
+    let count = opens_by_record(window, calls, size + ADDED, &air, &mut out);
     tell(count, &out[size - END..size]);
+}
+
+// The size of the windows of a request whose first letter is this.
+fn window_of(way: u8) -> u8 {
+    if way < b'a' {
+        return LARGE_WINDOW;
+    }
+    SMALL_WINDOW
 }
 
 // The octets of a frame whose body has this letter.
@@ -229,7 +241,9 @@ fn digit(x: u8) -> u64
 fn serve(request: &[u8])
     requires { ⌜ length (now request) ≡ 10 ⌝ }
 {
-    let by_table = request[0] == b't';
+    let way = request[0];
+    let by_table = way == b't' || way == b'T';
+    let window = window_of(way);
     let size = size_of(request[2]);
     let calls = digit(request[3]) * 100000
         + digit(request[4]) * 10000
@@ -240,7 +254,7 @@ fn serve(request: &[u8])
     if request[1] == b's' {
         seals(by_table, size, calls);
     } else {
-        opens(by_table, size, calls);
+        opens(by_table, window, size, calls);
     }
 }
 

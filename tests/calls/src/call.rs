@@ -5,6 +5,7 @@ use proved::Told;
 use second::fragment::Joiner;
 use second::frame::{Answer, Done, Receiver, Sender};
 use second::table::{Entry, Pairing, Table, Triple};
+use second::window::Window;
 use std::fmt;
 
 /// In the numbers of a record before it is made afresh.
@@ -12,9 +13,9 @@ const STALE: u64 = 0xa5a5_a5a5_a5a5_a5a5;
 
 pub enum Call {
     FreshSender { key: [u8; 16], key_id: u8, address: [u8; 6] },
-    FreshReceiver { key: [u8; 16], key_id: u8, peer: [u8; 6] },
+    FreshReceiver { key: [u8; 16], key_id: u8, peer: [u8; 6], size: u8 },
     Seal { sender: Sender, frame: Vec<u8>, room: Vec<u8> },
-    Open { receiver: Receiver, frame: Vec<u8>, room: Vec<u8> },
+    Open { receiver: Box<Receiver>, frame: Vec<u8>, room: Vec<u8> },
     Split { sender: Sender, frame: Vec<u8>, size: usize, room: Vec<u8> },
     Join { joiner: Box<Joiner>, frame: Vec<u8>, number: u64, room: Vec<u8> },
     NewTable,
@@ -43,21 +44,21 @@ pub struct Left {
 #[derive(Clone, PartialEq, Eq)]
 pub enum Record {
     Sender(Sender),
-    Receiver(Receiver),
+    Receiver(Box<Receiver>),
     Joiner(Box<Joiner>),
     Table(Box<Table>),
 }
 
 /// What a receiver holds before it is made afresh.
 fn stale_receiver() -> Receiver {
-    Receiver { replay_counters: [STALE; 16], opened: STALE as u32, ..Receiver::default() }
+    Receiver { windows: std::array::from_fn(|_| proved::window(STALE, STALE as u16)), opened: STALE as u32, ..Receiver::default() }
 }
 
 /// What a table holds before: no zero anywhere.
 fn stale_table() -> Box<Table> {
     let (key, own) = ([STALE as u8; 16], [STALE as u8; 6]);
     let counts = Receiver { format_errors: 1, replays: 2, decrypt_errors: 3, ..stale_receiver() };
-    let receiver = Receiver { key, key_id: STALE as u8, peer: own, ..counts };
+    let receiver = Receiver { key, key_id: STALE as u8, peer: own, window_size: STALE as u8, ..counts };
     let entry = Entry { used: true, may_send: true, may_receive: true, own, last_number: STALE, receiver };
     Box::new(Table { entries: std::array::from_fn(|_| entry.clone()), format_errors: STALE as u32 })
 }
@@ -96,10 +97,11 @@ impl Call {
                 let told = proved::fresh_sender(&mut sender);
                 Left { told, record: Record::Sender(sender), room: Vec::new() }
             }
-            Call::FreshReceiver { key, key_id, peer } => {
-                let mut receiver = Receiver { key: *key, key_id: *key_id, peer: *peer, ..stale_receiver() };
+            Call::FreshReceiver { key, key_id, peer, size } => {
+                let stale = Receiver { key: *key, key_id: *key_id, peer: *peer, window_size: *size, ..stale_receiver() };
+                let mut receiver = proved::Record::from(&stale);
                 let told = proved::fresh_receiver(&mut receiver);
-                Left { told, record: Record::Receiver(receiver), room: Vec::new() }
+                Left { told, record: Record::Receiver(Box::new(Receiver::from(&receiver))), room: Vec::new() }
             }
             Call::Seal { sender, frame, room } => {
                 let (mut sender, mut room) = (sender.clone(), room.clone());
@@ -107,9 +109,9 @@ impl Call {
                 Left { told, record: Record::Sender(sender), room }
             }
             Call::Open { receiver, frame, room } => {
-                let (mut receiver, mut room) = (receiver.clone(), room.clone());
+                let (mut receiver, mut room) = (proved::Record::from(receiver.as_ref()), room.clone());
                 let told = proved::open(&mut receiver, frame, &mut room);
-                Left { told, record: Record::Receiver(receiver), room }
+                Left { told, record: Record::Receiver(Box::new(Receiver::from(&receiver))), room }
             }
             Call::Split { sender, frame, size, room } => {
                 let (mut sender, mut room) = (sender.clone(), room.clone());
@@ -156,9 +158,9 @@ impl Call {
                 let (answer, sender) = Sender::fresh(*key, *key_id, *address);
                 Left { told: told(answer), record: Record::Sender(sender), room: Vec::new() }
             }
-            Call::FreshReceiver { key, key_id, peer } => {
-                let (answer, receiver) = Receiver::fresh(*key, *key_id, *peer);
-                Left { told: told(answer), record: Record::Receiver(receiver), room: Vec::new() }
+            Call::FreshReceiver { key, key_id, peer, size } => {
+                let (answer, receiver) = Receiver::fresh(*key, *key_id, *peer, *size);
+                Left { told: told(answer), record: Record::Receiver(Box::new(receiver)), room: Vec::new() }
             }
             Call::Seal { sender, frame, room } => {
                 let (mut sender, mut room) = (sender.clone(), room.clone());
@@ -220,13 +222,17 @@ fn triple_words(triple: &Triple) -> String {
     format!("own {} peer {} key ID {}", hex(&triple.own), hex(&triple.peer), triple.key_id)
 }
 
+fn window_words(window: &Window) -> String {
+    format!("{:x} {:04x}", window.greatest, proved::bits(window))
+}
+
 impl fmt::Display for Record {
     fn fmt(&self, f: &mut fmt::Formatter) -> fmt::Result {
         match self {
             Record::Sender(s) => write!(f, "key {} key ID {} address {} last {:x}", hex(&s.key), s.key_id, hex(&s.address), s.last_number),
             Record::Receiver(r) => {
-                write!(f, "key {} key ID {} peer {} replay {:x?} ", hex(&r.key), r.key_id, hex(&r.peer), r.replay_counters)?;
-                write!(f, "counts {:x?}", r.counts())
+                write!(f, "key {} key ID {} peer {} size {} ", hex(&r.key), r.key_id, hex(&r.peer), r.window_size)?;
+                write!(f, "windows [{}] counts {:x?}", r.windows.each_ref().map(window_words).join(", "), r.counts())
             }
             Record::Joiner(j) => {
                 write!(f, "address {} priority {} sequence {:x} fragment {} ", hex(&j.address), j.priority, j.sequence, j.fragment)?;
@@ -237,7 +243,7 @@ impl fmt::Display for Record {
                 write!(f, "format errors {:x}", t.format_errors)?;
                 t.entries.iter().enumerate().filter(|(_, entry)| **entry != Entry::default()).try_for_each(|(place, e)| {
                     write!(f, "\n  entry {place}: used {} may send {} may receive {} ", e.used, e.may_send, e.may_receive)?;
-                    write!(f, "own {} last {:x} {}", hex(&e.own), e.last_number, Record::Receiver(e.receiver.clone()))
+                    write!(f, "own {} last {:x} {}", hex(&e.own), e.last_number, Record::Receiver(Box::new(e.receiver.clone())))
                 })
             }
         }
@@ -249,7 +255,7 @@ impl fmt::Display for Call {
         write!(f, "{}: ", self.name())?;
         let (record, frame, room) = match self {
             Call::FreshSender { key, key_id, address } => return write!(f, "key {} key ID {key_id} address {}", hex(key), hex(address)),
-            Call::FreshReceiver { key, key_id, peer } => return write!(f, "key {} key ID {key_id} peer {}", hex(key), hex(peer)),
+            Call::FreshReceiver { key, key_id, peer, size } => return write!(f, "key {} key ID {key_id} peer {} size {size}", hex(key), hex(peer)),
             Call::Seal { sender, frame, room } => (Record::Sender(sender.clone()), frame, room),
             Call::Open { receiver, frame, room } => (Record::Receiver(receiver.clone()), frame, room),
             Call::Split { sender, frame, size, room } => {
@@ -267,8 +273,8 @@ impl fmt::Display for Call {
             }
             Call::TableOpen { table, frame, room } => (Record::Table(table.clone()), frame, room),
             Call::TableAdd { table, pairing } => {
-                let Pairing { triple, key, may_send, may_receive } = pairing;
-                write!(f, "{} key {} may send {may_send} may receive {may_receive} ", triple_words(triple), hex(key))?;
+                let Pairing { triple, key, may_send, may_receive, size } = pairing;
+                write!(f, "{} key {} may send {may_send} may receive {may_receive} size {size} ", triple_words(triple), hex(key))?;
                 return write!(f, "{}", Record::Table(table.clone()));
             }
             Call::TableRemove { table, triple } => return write!(f, "{} {}", triple_words(triple), Record::Table(table.clone())),

@@ -7,6 +7,7 @@ use crate::call::{Call, Calls, Left, Record};
 use second::fragment::{Joiner, MAX_FRAGMENTS, MAX_MESSAGE, MAX_SIZE, MIN_SIZE, MORE_FRAG};
 use second::frame::{header_length, Receiver, Sender, ADDED, MAX_NUMBER};
 use second::sample::Random;
+use second::window::SIZES;
 use std::collections::VecDeque;
 
 /// No message joins those that wait where there are so many fragments.
@@ -92,7 +93,7 @@ impl Fragments {
 
     /// Opens the fragments of a message and puts them on their way: one message in six among those that wait, the others after them.
     fn send<'a>(&mut self, sender: &Sender, sealed: impl Iterator<Item = &'a [u8]>) {
-        let mut receiver = Receiver { key: sender.key, key_id: sender.key_id, peer: sender.address, ..Receiver::default() };
+        let (_, mut receiver) = Receiver::fresh(sender.key, sender.key_id, sender.address, self.random.pick(&SIZES));
         let mut place = if self.random.one_in(6) { 0 } else { self.waiting.len() };
         for text in sealed {
             let mut frame = vec![0; text.len() - ADDED];

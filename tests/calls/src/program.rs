@@ -32,6 +32,7 @@ struct Asked {
     key: [u8; 16],
     may_send: bool,
     may_receive: bool,
+    size: u8,
 }
 
 fn put_table(t: &Table, octets: &mut Vec<u8>) {
@@ -43,8 +44,10 @@ fn put_table(t: &Table, octets: &mut Vec<u8>) {
         octets.extend(receiver.peer);
         octets.extend(receiver.key);
         octets.extend(entry.last_number.to_le_bytes());
-        octets.extend(receiver.replay_counters.iter().flat_map(|counter| counter.to_le_bytes()));
+        octets.extend(receiver.windows.iter().flat_map(|window| window.greatest.to_le_bytes()));
         octets.extend(receiver.counts().iter().flat_map(|count| count.to_le_bytes()));
+        octets.push(receiver.window_size);
+        octets.extend(receiver.windows.iter().flat_map(|window| proved::bits(window).to_le_bytes()));
     }
     octets.extend(t.format_errors.to_le_bytes());
 }
@@ -77,18 +80,20 @@ impl Octets<'_> {
         let [key_id] = self.take();
         let (peer, key) = (self.take(), self.take());
         let last_number = self.number();
-        let replay_counters = std::array::from_fn(|_| self.number());
+        let greatest: [u64; 16] = std::array::from_fn(|_| self.number());
         let [format_errors, replays, decrypt_errors, opened] = std::array::from_fn(|_| self.count());
-        let receiver = Receiver { key, key_id, peer, replay_counters, format_errors, replays, decrypt_errors, opened };
+        let [window_size] = self.take();
+        let windows = greatest.map(|greatest| proved::window(greatest, u16::from_le_bytes(self.take())));
+        let receiver = Receiver { key, key_id, peer, window_size, windows, format_errors, replays, decrypt_errors, opened };
         Entry { used, may_send, may_receive, own, last_number, receiver }
     }
 }
 
 /// The octets of an answer before the room: four numbers and a table.
-const ANSWER: usize = 32 + 16 * 184 + 4;
+const ANSWER: usize = 32 + 16 * 217 + 4;
 
 fn call(letter: u8, t: &mut Table, asked: Asked, frame: &[u8], room: &mut [u8]) -> Told {
-    let Asked { own, peer, key_id, key, may_send, may_receive } = asked;
+    let Asked { own, peer, key_id, key, may_send, may_receive, size } = asked;
     let mut request = Vec::new();
     put_table(t, &mut request);
     request.push(letter);
@@ -97,6 +102,7 @@ fn call(letter: u8, t: &mut Table, asked: Asked, frame: &[u8], room: &mut [u8]) 
     request.push(key_id);
     request.extend(key);
     request.extend([may_send, may_receive].map(u8::from));
+    request.push(size);
     request.extend((frame.len() as u32).to_le_bytes());
     request.extend((room.len() as u32).to_le_bytes());
     request.extend(frame);
@@ -119,8 +125,8 @@ pub fn new_table(t: &mut Table) -> Told {
 }
 
 pub fn table_add(t: &mut Table, pairing: &Pairing) -> Told {
-    let &Pairing { triple: Triple { own, peer, key_id }, key, may_send, may_receive } = pairing;
-    call(b'a', t, Asked { own, peer, key_id, key, may_send, may_receive }, &[], &mut [])
+    let &Pairing { triple: Triple { own, peer, key_id }, key, may_send, may_receive, size } = pairing;
+    call(b'a', t, Asked { own, peer, key_id, key, may_send, may_receive, size }, &[], &mut [])
 }
 
 pub fn table_remove(t: &mut Table, triple: &Triple) -> Told {

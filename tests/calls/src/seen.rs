@@ -1,11 +1,13 @@
 //! What a run has shown so far, and what a whole one has to show.
 
+use crate::any;
 use crate::call::{Call, Left, Record};
 use crate::fragments::{body, continued};
 use crate::tables::{asked_to_open, asked_to_seal, place_of, turned};
 use second::fragment::{Joiner, MAX_MESSAGE, MORE_FRAG};
-use second::frame::{has_ht, header_length, Receiver, Sender, MAX_NUMBER, ORDER};
+use second::frame::{has_ht, header_length, number_in, Receiver, Sender, MAX_NUMBER, ORDER};
 use second::table::{Entry, Pairing, Table, Triple};
+use second::window::{Window, SIZES};
 use std::collections::{BTreeMap, BTreeSet};
 
 const PRIORITIES: &[u64] = &[0, 1, 2, 3, 4, 5, 6, 7, 8, 9, 10, 11, 12, 13, 14, 15];
@@ -14,13 +16,32 @@ const PLACES: &[u64] = PRIORITIES;
 /// How many entries of a table can be in use.
 const IN_USE: &[u64] = &[0, 1, 2, 3, 4, 5, 6, 7, 8, 9, 10, 11, 12, 13, 14, 15, 16];
 
-/// What can be wrong with an entry: 0 its key ID, 1 its last number, 2 a replay counter, 3 its triple or 4 its key, which another in use has.
-const FAULTS: &[u64] = &[0, 1, 2, 3, 4];
+/// What can be wrong with an entry: 0 its key ID, 1 its last number, 2 a window's greatest number, 3 its triple or 4 its key, which another in
+/// use has, 5 its size. And with a window: it holds 0 or less 6 at size 1, 7 at size 16; it lacks its greatest 8 at size 1, 9 at size 16; or
+/// 10 at size 1 it holds another too.
+const FAULTS: &[u64] = &[0, 1, 2, 3, 4, 5, 6, 7, 8, 9, 10];
+/// Those of a receiver.
+const RECEIVER_FAULTS: &[u64] = &[0, 2, 5, 6, 7, 8, 9, 10];
+
+const WRONG_SIZES: &[u64] = &[0, 2, 15, 17, 255];
+
+/// How far below the greatest number one is taken at size 16.
+const LATE: &[u64] = &[1, 2, 3, 4, 5, 6, 7, 8, 9, 10, 11, 12, 13, 14, 15];
+/// How far below it one is refused because it was opened, at size 16, or because it is 0, at both sizes.
+const IN_REACH: &[u64] = PRIORITIES;
+const TOO_LATE: &[u64] = &[16, 17];
+const TOO_LATE_AT_1: &[u64] = &[1, 2, 3, 4, 5, 6, 7, 8, 9, 10, 11, 12, 13, 14, 15, 16, 17];
+/// How far above it: from 16 on nothing stays of what was opened.
+const ABOVE: &[u64] = &[1, 2, 14, 15, 16, 17];
+/// The greatest of these.
+const NEAR: u64 = 17;
 
 /// What a whole run has to show.
 pub const DUE: &[(&str, &[u64])] = &[
     ("fresh sender, answer", &[0, 1]),
     ("fresh receiver, answer", &[0, 1]),
+    ("fresh receiver, size", &[1, 16]),
+    ("fresh receiver, size refused", WRONG_SIZES),
     ("seal, answer", &[0, 1, 2, 3, 4, 5, 6, 7, 12]),
     ("open, answer", &[0, 1, 2, 3, 4, 5, 6, 7, 8, 9, 10, 11]),
     ("split, answer", &[0, 1, 2, 3, 4, 6, 7, 12, 13]),
@@ -38,6 +59,18 @@ pub const DUE: &[(&str, &[u64])] = &[
     ("split, header with HT Control", &[30, 36]),
     ("join, header with HT Control", &[30, 36]),
     ("open, answer to b15 turned over", &[5, 8, 9, 10, 11]),
+    // By no other fault.
+    ("open, answer 1 by", RECEIVER_FAULTS),
+    ("open at size 1, above the greatest by", ABOVE),
+    ("open at size 1, opened before, late by", &[0]),
+    ("open at size 1, too late by", TOO_LATE_AT_1),
+    ("open at size 1, number 0, greatest", IN_REACH),
+    ("open at size 16, above the greatest by", ABOVE),
+    ("open at size 16, taken late by", LATE),
+    ("open at size 16, opened before, late by", IN_REACH),
+    ("open at size 16, wrong code, late by", &[1, 15]),
+    ("open at size 16, too late by", TOO_LATE),
+    ("open at size 16, number 0, greatest", IN_REACH),
     ("count moved", &[0, 1, 2, 3]),
     ("count gone back to 0", &[0, 1, 2, 3]),
     ("split, fragments", &[1, 2, 3, 4, 5, 6, 7, 8, 9, 10, 11, 12, 13, 14, 15, 16]),
@@ -84,6 +117,10 @@ pub const DUE: &[(&str, &[u64])] = &[
     ("table add, new where a free entry was not all zeros, answer", &[0]),
     ("table add, key of a free entry, answer", &[0]),
     ("table add, key ID over 3 to a sound table, answer", &[1]),
+    ("table add, size", &[1, 16]),
+    ("table add, size refused by a sound table", WRONG_SIZES),
+    // What it would answer but for the size.
+    ("table add, size refused before answer", &[16, 17]),
     // 0 the entry's own key again, or another entry's for a triple that is 1 present, 2 new, 3 new with no entry free.
     ("table add, answer 17 by", &[0, 1, 2, 3]),
     // By no other fault.
@@ -100,6 +137,16 @@ pub const DUE: &[(&str, &[u64])] = &[
     ("table seal, answer 15 by", &[0, 1, 2, 3, 4, 5, 6]),
     ("table open, answer 15 by", &[0, 1, 2, 4, 5, 6]),
     ("table remove, answer 15 by", &[0, 1, 2, 3, 4, 5]),
+    ("table open at size 1, above the greatest by", ABOVE),
+    ("table open at size 1, opened before, late by", &[0]),
+    ("table open at size 1, too late by", TOO_LATE_AT_1),
+    ("table open at size 1, number 0, greatest", IN_REACH),
+    ("table open at size 16, above the greatest by", ABOVE),
+    ("table open at size 16, taken late by", LATE),
+    ("table open at size 16, opened before, late by", IN_REACH),
+    ("table open at size 16, wrong code, late by", &[1, 15]),
+    ("table open at size 16, too late by", TOO_LATE),
+    ("table open at size 16, number 0, greatest", IN_REACH),
     ("table open, answer that moved the table's count", &[2, 3, 4, 5, 8]),
     ("table open, table's count gone back to 0", &[0]),
     ("table open, entry's count moved", &[1, 2, 3]),
@@ -121,11 +168,18 @@ impl Seen {
             self.table(call.name(), table, left);
         }
         match call {
-            Call::FreshSender { .. } | Call::FreshReceiver { .. } | Call::NewTable => {}
+            Call::FreshSender { .. } | Call::NewTable => {}
+            Call::FreshReceiver { key_id, size, .. } => {
+                if *key_id <= 3 {
+                    let what = if left.told[0] == 0 { "fresh receiver, size" } else { "fresh receiver, size refused" };
+                    self.add(what.into(), u64::from(*size));
+                }
+            }
             Call::Seal { frame, .. } => self.done(call, frame, left),
             Call::Open { receiver, frame, .. } => {
                 self.done(call, frame, left);
                 self.open(receiver, frame, left);
+                self.late(call.name(), receiver, frame, left);
             }
             Call::Split { sender, frame, size, .. } => {
                 self.done(call, frame, left);
@@ -143,6 +197,9 @@ impl Seen {
                 self.done(call, frame, left);
                 self.search(call.name(), table, asked_to_open(frame), left);
                 self.table_counts(table, left);
+                if let Some(place) = asked_to_open(frame).and_then(|triple| place_of(table, triple)) {
+                    self.late(call.name(), &table.entries[place].receiver, frame, left);
+                }
             }
             Call::TableAdd { table, pairing } => self.table_add(table, pairing, left),
             Call::TableRemove { table, triple } => self.search(call.name(), table, Some(*triple), left),
@@ -161,10 +218,33 @@ impl Seen {
         if left.told[0] > 0 && opens_turned_back(receiver, frame) {
             self.add(String::from("open, answer to b15 turned over"), left.told[0]);
         }
+        if let (1, [fault]) = (left.told[0], &receiver_faults(receiver)[..]) {
+            self.add(String::from("open, answer 1 by"), *fault);
+        }
         let Record::Receiver(after) = &left.record else {
             return;
         };
         self.counts("", receiver, after);
+    }
+
+    /// How a number that came to the test of replays stands to its window.
+    fn late(&mut self, name: &str, receiver: &Receiver, frame: &[u8], left: &Left) {
+        let answer @ (0 | 10 | 11) = left.told[0] else {
+            return;
+        };
+        let (number, Window { greatest, opened }) = (number_in(&frame[header_length(frame)..]), &receiver.windows[any::priority(frame)]);
+        let late = greatest.wrapping_sub(number);
+        let (how, by) = match answer {
+            0 if number > *greatest => ("above the greatest by", number - greatest),
+            0 => ("taken late by", late),
+            10 if number == 0 => ("number 0, greatest", *greatest),
+            10 if opened.contains(&number.into()) => ("opened before, late by", late),
+            10 => ("too late by", late),
+            _ => ("wrong code, late by", late),
+        };
+        if by <= NEAR {
+            self.add(format!("{name} at size {}, {how}", receiver.window_size), by);
+        }
     }
 
     fn counts(&mut self, whose: &str, before: &Receiver, after: &Receiver) {
@@ -260,7 +340,13 @@ impl Seen {
         let present = place_of(table, pairing.triple);
         match left.told[0] {
             0 => self.added(table, pairing, present, left),
-            1 if faults_in_use(table).is_empty() => self.add(String::from("table add, key ID over 3 to a sound table, answer"), 1),
+            1 if faults_in_use(table).is_empty() => {
+                if SIZES.contains(&pairing.size) {
+                    self.add(String::from("table add, key ID over 3 to a sound table, answer"), 1);
+                } else if pairing.triple.key_id <= 3 {
+                    self.size_refused(table, pairing);
+                }
+            }
             17 => {
                 let holder = table.entries.iter().position(|entry| entry.used && entry.receiver.key == pairing.key);
                 let reason = match present {
@@ -275,7 +361,15 @@ impl Seen {
         }
     }
 
+    fn size_refused(&mut self, table: &Table, pairing: &Pairing) {
+        self.add(String::from("table add, size refused by a sound table"), pairing.size.into());
+        if let Err(refusal) = table.clone().add(&Pairing { size: 1, ..pairing.clone() }) {
+            self.add(String::from("table add, size refused before answer"), refusal as u64);
+        }
+    }
+
     fn added(&mut self, table: &Table, pairing: &Pairing, present: Option<usize>, left: &Left) {
+        self.add(String::from("table add, size"), pairing.size.into());
         if table.entries.iter().any(|entry| !entry.used && entry.receiver.key == pairing.key) {
             self.add(String::from("table add, key of a free entry, answer"), 0);
         }
@@ -332,6 +426,25 @@ fn reasons(joiner: &Joiner, frame: &[u8], number: u64) -> Vec<&'static str> {
     all.into_iter().filter_map(|(reason, holds)| holds.then_some(reason)).collect()
 }
 
+/// What is wrong with a receiver.
+fn receiver_faults(receiver: &Receiver) -> Vec<u64> {
+    let (size, windows) = (receiver.window_size, &receiver.windows);
+    let zero_or_less = windows.iter().any(|window| window.opened.iter().any(|&number| number <= 0));
+    let lacks_greatest = windows.iter().any(|window| window.greatest > 0 && !window.opened.contains(&window.greatest.into()));
+    let another = |window: &Window| window.opened.iter().any(|&number| number > 0 && number != window.greatest.into());
+    let all = [
+        (0, receiver.key_id > 3),
+        (2, windows.iter().any(|window| window.greatest > MAX_NUMBER)),
+        (5, !SIZES.contains(&size)),
+        (6, size == 1 && zero_or_less),
+        (7, size == 16 && zero_or_less),
+        (8, size == 1 && lacks_greatest),
+        (9, size == 16 && lacks_greatest),
+        (10, size == 1 && windows.iter().any(another)),
+    ];
+    all.into_iter().filter_map(|(fault, holds)| holds.then_some(fault)).collect()
+}
+
 fn in_use(table: &Table) -> Vec<&Entry> {
     table.entries.iter().filter(|entry| entry.used).collect()
 }
@@ -339,13 +452,12 @@ fn in_use(table: &Table) -> Vec<&Entry> {
 /// What is wrong with an entry beside these others.
 fn faults(entry: &Entry, others: &[&Entry]) -> Vec<u64> {
     let all = [
-        entry.receiver.key_id > 3,
-        entry.last_number > MAX_NUMBER,
-        entry.receiver.replay_counters.iter().any(|&counter| counter > MAX_NUMBER),
-        others.iter().any(|other| other.triple() == entry.triple()),
-        others.iter().any(|other| other.receiver.key == entry.receiver.key),
+        (1, entry.last_number > MAX_NUMBER),
+        (3, others.iter().any(|other| other.triple() == entry.triple())),
+        (4, others.iter().any(|other| other.receiver.key == entry.receiver.key)),
     ];
-    FAULTS.iter().zip(all).filter_map(|(&fault, holds)| holds.then_some(fault)).collect()
+    let holding = all.into_iter().filter_map(|(fault, holds)| holds.then_some(fault));
+    holding.chain(receiver_faults(&entry.receiver)).collect()
 }
 
 /// What is wrong with a table.

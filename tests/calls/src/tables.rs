@@ -1,6 +1,7 @@
 //! Lists of calls on tables from a seed. A list has two tables that face each other, a box's and its cameras': what one adds or removes the
-//! other mostly does next, and what one seals is on its way to the other. Most calls take the table that the last call on it handed back.
-//! The others take one that differs from it, sound or not, and what they hand back is dropped.
+//! other mostly does next, and what one seals is on its way to the other. Where they have few entries all frames have one priority, or none,
+//! and come shuffled, a burst of them once both have an entry. Most calls take the table that the last call on it handed back. The others take
+//! one that differs from it, sound or not, and what they hand back is dropped.
 
 use crate::air::Air;
 use crate::any;
@@ -8,8 +9,14 @@ use crate::call::{Call, Calls, Left, Record};
 use second::frame::{header_length, Receiver, ADDED, MAX_BODY, MAX_NUMBER, PROTECTED};
 use second::sample::{Random, SHORTEST_SEALED};
 use second::table::{Entry, Pairing, Table, Triple, ENTRIES};
+use second::window::SIZES;
 
 type Address = [u8; 6];
+
+/// Frames to tables that mostly have so many entries in use, or fewer, come shuffled.
+const FEW: usize = 4;
+/// The frames of a burst, each way.
+const BURST: usize = 32;
 
 /// Where A1 and A2 begin in a frame.
 const A1: usize = 4;
@@ -36,6 +43,8 @@ pub struct Tables {
     ends: [End; 2],
     /// Entries that a table has in use most of the time.
     most: usize,
+    /// That of all frames that have one, where they come shuffled.
+    priority: Option<u8>,
     /// The end that the last call was made at.
     at: usize,
     next: Option<Change>,
@@ -100,10 +109,14 @@ impl Calls for Tables {
         if in_use < self.most && self.random.below(16) < if self.most == 1 { 3 } else { 12 } {
             return self.add(self.most > 1);
         }
+        // So that the frames of a burst come before their entry goes.
+        if in_use > 0 && self.priority.is_some() && !self.random.one_in(4) {
+            return self.open();
+        }
         match self.random.below(if in_use > self.most { 36 } else { 32 }) {
             0..3 => self.add(false),
             3..12 => self.seal(),
-            12..29 => self.open(),
+            12..28 => self.open(),
             _ => self.remove(),
         }
     }
@@ -116,12 +129,16 @@ impl Calls for Tables {
         match call {
             _ if left.told[0] > 0 => {}
             Call::NewTable => self.begin(),
-            Call::TableSeal { .. } => self.ends[1 - self.at].air.send(&left.room[..left.told[3] as usize]),
+            Call::TableSeal { .. } => self.ends[1 - self.at].air.send(&mut self.random, &left.room[..left.told[3] as usize]),
             Call::TableAdd { pairing, .. } => {
                 self.go_ahead(pairing.triple);
+                if self.follows && self.priority.is_some() {
+                    self.burst(self.at, pairing.triple);
+                    self.burst(1 - self.at, turned(pairing.triple));
+                }
                 if !self.follows && !self.random.one_in(16) {
-                    let (may_send, may_receive) = self.flags();
-                    self.next = Some(Change::Add(Pairing { triple: turned(pairing.triple), key: pairing.key, may_send, may_receive }));
+                    let ((may_send, may_receive), size) = (self.flags(), self.random.pick(&SIZES));
+                    self.next = Some(Change::Add(Pairing { triple: turned(pairing.triple), key: pairing.key, may_send, may_receive, size }));
                 }
             }
             Call::TableRemove { triple, .. } if !self.follows && !self.random.one_in(4) => self.next = Some(Change::Remove(turned(*triple))),
@@ -135,8 +152,10 @@ impl Tables {
     pub fn new(seed: u64) -> Self {
         let mut random = Random(seed << 32);
         let most = [1, ENTRIES - 1, ENTRIES, 2 + random.below(ENTRIES - 3)][(seed % 4) as usize];
-        let ends = [2, 7].map(|count| End { addresses: addresses(&mut random, count), ..End::default() });
-        Tables { random, made: 0, ends, most, at: 0, next: None, follows: false, keeps: true }
+        let priority = (most <= FEW).then(|| random.below(16) as u8);
+        let end = |count: usize| End { addresses: addresses(&mut random, count), air: Air::new(priority.is_some()), ..End::default() };
+        let ends = [2, 7].map(end);
+        Tables { random, made: 0, ends, most, priority, at: 0, next: None, follows: false, keeps: true }
     }
 
     fn end(&self) -> &End {
@@ -190,8 +209,10 @@ impl Tables {
         let (Triple { own, peer, key_id }, key, (may_send, may_receive)) = (self.triple(), self.key(), self.flags());
         let random = &mut self.random;
         let key_id = if random.one_in(4) { any::key_id(random) } else { key_id };
-        let (last_number, replay_counters) = (any::number(random), std::array::from_fn(|_| any::number(random)));
-        let mut receiver = Receiver { key, key_id, peer, replay_counters, ..Receiver::default() };
+        let window_size = if random.one_in(4) { any::wrong_size(random) } else { random.pick(&SIZES) };
+        let last_number = any::number(random);
+        let mut receiver = Receiver { key, key_id, peer, window_size, ..Receiver::default() };
+        (0..2).for_each(|_| receiver.windows[random.below(16)] = any::any_window(random));
         any::counts_near_their_end(random, &mut receiver);
         Entry { used: false, may_send, may_receive, own, last_number, receiver }
     }
@@ -221,12 +242,33 @@ impl Tables {
         }
     }
 
+    /// Seals frames at one end, by its entry of this triple.
+    fn burst(&mut self, at: usize, triple: Triple) {
+        for _ in 0..BURST {
+            let frame = self.plain(triple);
+            let mut sealed = vec![0; frame.len() + ADDED];
+            if self.ends[at].table.seal(triple.key_id, &frame, &mut sealed).is_ok() {
+                self.ends[1 - at].air.send(&mut self.random, &sealed);
+            }
+        }
+    }
+
+    /// A frame that sealing takes where there is an entry of this triple.
+    fn plain(&mut self, Triple { own, peer, .. }: Triple) -> Vec<u8> {
+        let mut frame = self.random.plain(own);
+        if let Some(priority) = self.priority {
+            any::set_priority(&mut frame, priority);
+        }
+        frame[A1..A2].copy_from_slice(&peer);
+        frame
+    }
+
     /// The table for a call about the entry at this place: the one that the last call handed back, or one time in so many another.
-    fn table(&mut self, place: usize, frame: &[u8], chances: usize) -> Box<Table> {
+    fn table(&mut self, place: usize, chances: usize) -> Box<Table> {
         let mut table = self.end().table.clone();
         self.keeps = !self.random.one_in(chances);
         while !self.keeps {
-            self.alter(&mut table, place, frame);
+            self.alter(&mut table, place);
             if !self.random.one_in(4) {
                 break;
             }
@@ -235,19 +277,20 @@ impl Tables {
     }
 
     /// Alters a table, mostly at this place: a field to a limit or past it, a flag, a part that another entry then has too, or what is free.
-    fn alter(&mut self, table: &mut Table, place: usize, frame: &[u8]) {
+    fn alter(&mut self, table: &mut Table, place: usize) {
         let (free, other) = (self.free_entry(), table.entries[self.place()].clone());
         let random = &mut self.random;
         let place = if random.one_in(2) { place } else { random.below(ENTRIES) };
         let entry = &mut table.entries[place];
-        match random.below(32) {
+        let size = entry.receiver.window_size;
+        match random.below(46) {
             0 => entry.receiver.key_id = any::key_id(random),
             1..3 => entry.receiver.key_id = any::key_id_over_3(random),
             3..5 => entry.last_number = any::number(random),
             5..7 => entry.last_number = any::beyond(random),
-            7..9 => entry.receiver.replay_counters[random.below(16)] = any::number(random),
-            9..11 => entry.receiver.replay_counters[random.below(16)] = any::beyond(random),
-            11..13 => entry.receiver.replay_counters = [any::counter_near(random, frame); 16],
+            7..9 => entry.receiver.windows[random.below(16)] = any::any_window(random),
+            9 => entry.receiver.window_size = random.pick(&SIZES),
+            10..13 => entry.receiver.window_size = any::wrong_size(random),
             13 => any::counts_near_their_end(random, &mut entry.receiver),
             14..17 => table.format_errors = u32::MAX - random.below(2) as u32,
             17 => entry.used ^= true,
@@ -260,6 +303,7 @@ impl Tables {
             25..27 => (entry.own, entry.receiver.peer, entry.receiver.key_id) = (other.own, other.receiver.peer, other.receiver.key_id),
             27 | 28 => *entry = free,
             29 => *entry = Entry { used: false, ..other },
+            30..44 => entry.receiver.windows[random.below(16)] = any::unsound_window(random, size),
             _ => table.entries.swap(place, random.below(ENTRIES)),
         }
     }
@@ -267,7 +311,7 @@ impl Tables {
     /// Adds an entry, a new one in most cases, or with a triple or a key that is there.
     fn add(&mut self, new: bool) -> Call {
         let (mut triple, mut key, (may_send, may_receive)) = (self.triple(), self.key(), self.flags());
-        let place = self.place();
+        let (place, mut size) = (self.place(), self.random.pick(&SIZES));
         let (entry, other) = (self.end().table.entries[place].clone(), self.entry().clone());
         match self.random.below(if new { 64 } else { 16 }) {
             0..4 => triple = entry.triple(),
@@ -275,10 +319,12 @@ impl Tables {
             7 => (triple, key) = (entry.triple(), entry.receiver.key),
             8 => (triple, key) = (entry.triple(), other.receiver.key),
             9 => triple.key_id = any::key_id_over_3(&mut self.random),
+            10 | 11 => size = any::wrong_size(&mut self.random),
+            12 => (key, size) = (entry.receiver.key, any::wrong_size(&mut self.random)),
             _ => {}
         }
-        let table = self.table(place, &[], if new { 8 } else { 3 });
-        Call::TableAdd { table, pairing: Pairing { triple, key, may_send, may_receive } }
+        let table = self.table(place, if new { 6 } else { 3 });
+        Call::TableAdd { table, pairing: Pairing { triple, key, may_send, may_receive, size } }
     }
 
     fn remove(&mut self) -> Call {
@@ -292,14 +338,13 @@ impl Tables {
             4 => triple = turned(triple),
             _ => {}
         }
-        Call::TableRemove { table: self.table(place, &[], 3), triple }
+        Call::TableRemove { table: self.table(place, 2), triple }
     }
 
     fn seal(&mut self) -> Call {
         let place = self.place();
-        let Triple { own, peer, mut key_id } = self.end().table.entries[place].triple();
-        let mut frame = self.random.plain(own);
-        frame[A1..A2].copy_from_slice(&peer);
+        let triple = self.end().table.entries[place].triple();
+        let (mut frame, mut key_id) = (self.plain(triple), triple.key_id);
         any::resize(&mut self.random, &mut frame, &[0, 1, MAX_BODY, MAX_BODY + 1]);
         match self.random.below(20) {
             0 => key_id ^= any::key_id(&mut self.random),
@@ -310,12 +355,17 @@ impl Tables {
             self.random.spoil(&mut frame);
         }
         any::octets(&mut self.random, &mut frame);
-        let table = self.table(place, &frame, 4);
+        let table = self.table(place, 4);
         let room = any::room(&mut self.random, frame.len() + ADDED);
         Call::TableSeal { table, key_id, frame, room }
     }
 
     fn open(&mut self) -> Call {
+        if self.random.one_in(2) {
+            if let Some(call) = self.open_near() {
+                return call;
+            }
+        }
         let frame = self.ends[self.at].air.delivery(&mut self.random);
         let Some(mut frame) = frame.or_else(|| self.random.one_in(8).then(|| self.stray())) else {
             self.at = 1 - self.at;
@@ -332,9 +382,21 @@ impl Tables {
         }
         any::octets(&mut self.random, &mut frame);
         let place = asked_to_open(&frame).and_then(|triple| place_of(&self.end().table, triple)).unwrap_or_else(|| self.place());
-        let table = self.table(place, &frame, 3);
+        let table = self.table(place, 3);
         let room = any::room(&mut self.random, frame.len().saturating_sub(ADDED));
         Call::TableOpen { table, frame, room }
+    }
+
+    /// A frame with any number for an entry in use, and in that a window near it.
+    fn open_near(&mut self) -> Option<Call> {
+        let (place, mut table) = (self.place(), self.end().table.clone());
+        let entry = Some(&mut table.entries[place]).filter(|entry| entry.used)?;
+        self.keeps = false;
+        let mut plain = self.random.plain(entry.receiver.peer);
+        plain[A1..A2].copy_from_slice(&entry.own);
+        let frame = any::near(&mut self.random, &mut entry.receiver, &plain);
+        let room = self.random.octets(plain.len());
+        Some(Call::TableOpen { table, frame, room })
     }
 
     /// A frame that looks like a sealed one for a triple that this end may have.

@@ -7,10 +7,10 @@ use Rattle.table_calls.proofs.write_entry.Statement.{statement}
 use Rattle.table_calls.proofs.write_entry.Tie as tie
 
 abbrev Inv-loop : tie.InvT-loop
-Inv-loop e b₀ i₀ b i = (i ≤ 184) × (length b ≡ 184)
+Inv-loop e b₀ i₀ b i = (i ≤ 217) × (length b ≡ 217)
 
 abbrev μ-loop : tie.MeasureT-loop
-μ-loop e b₀ i₀ b i = 184 - i
+μ-loop e b₀ i₀ b i = 217 - i
 
 pub write-entry-spec : {M : Type 1} → statement M
 write-entry-spec =

@@ -5,10 +5,10 @@ use Rattle.table_times.proofs.full_table.Statement.{statement}
 use Rattle.table_times.proofs.full_table.Tie as tie
 
 abbrev Inv-loop : tie.InvT-loop
-Inv-loop table₀ i₀ table i = i ≤ 16
+Inv-loop window table₀ i₀ table i = i ≤ 16
 
 abbrev μ-loop : tie.MeasureT-loop
-μ-loop table₀ i₀ table i = 16 - i
+μ-loop window table₀ i₀ table i = 16 - i
 
 pub full-table-spec : {M : Type 1} → statement M
 full-table-spec =

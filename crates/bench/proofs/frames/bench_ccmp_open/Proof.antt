@@ -9,10 +9,10 @@ use Rattle.bench.proofs.frames.bench_ccmp_open.Tie as tie
 
 returns : tie.Need-returns
 returns c =
-    let c₁ = c .before .before .before .before .before .before in
+    let c₁ = c .before .before .before .before .before .before .before in
     let c₂ = c₁ .before .before .before in
     let c₃ = c₂ .before .before in
-    let a = c₃ .before .before .before .before .before .before .before .before .args in
+    let a = c₃ .before .before .before .before .before .before .before .before .before .before .args in
     let f = a .frame .now in
     let o = a .out .now in
     let made = c₃ .receiver-of .ensures in

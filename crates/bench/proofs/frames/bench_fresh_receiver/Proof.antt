@@ -7,7 +7,7 @@ use Rattle.bench.proofs.frames.bench_fresh_receiver.Tie as tie
 
 returns : tie.Need-returns
 returns c =
-    let c₁ = c .before .before .before .before .before .before in
+    let c₁ = c .before .before .before .before .before .before .before in
     let fresh = c₁ .before .fresh-receiver .ensures in
     (c₁ .parts-of .ensures ∙ ap padded (fresh .0), fresh .1)
 

@@ -1,15 +1,15 @@
--- What is made, with its counters and counts set.
+-- What is made, with its windows and counts set.
 use mathlib.Core.Path.{ap}
 use borrow.Author.Needs.{needs}
 use Rattle.rules.specs.declared.Receiver.{Receiver}
-use Rattle.bench.specs.Numbers.{withCounters}
+use Rattle.bench.specs.Numbers.{withWindows}
 use Rattle.bench.proofs.frames.receiver_of.Statement.{statement}
 use Rattle.bench.proofs.frames.receiver_of.Tie as tie
 
 returns : tie.Need-returns
 returns c =
     let a = c .before .args in
-    ap (λ (r : Receiver). withCounters r (a .replay) (a .t5)) (c .new-receiver .ensures)
+    ap (λ (r : Receiver). withWindows r (a .replay) (a .seen) (a .t7)) (c .new-receiver .ensures)
 
 pub receiver-of-spec : {M : Type 1} → statement M
 receiver-of-spec =

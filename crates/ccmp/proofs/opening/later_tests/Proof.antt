@@ -4,18 +4,21 @@ use mathlib.Core.Bool.{true, false}
 use mathlib.Core.List.{List}
 use Prim.Native.Nat.{ℕ, _+_, _-_, _≤_}
 use native.Mathlib.Omega.{arith}
-use borrow.Author.Tests.{lt-ltb, le-ltb, le-leb, lt-leb, not-true, not-false}
+use borrow.Author.Tests.{lt-ltb, le-ltb, not-true, not-false}
 use borrow.Author.Needs.{needs}
 use lib.Dec.{ltb, eqb}
 use lib.ListN.{length}
 use Rattle.octets.specs.Octets.{same}
 use Rattle.rules.specs.Limits.{leastBody, mostBody}
-use Rattle.rules.specs.Header.{headerLength, address2}
-use Rattle.rules.specs.Nonce.{ccmpOf, extended, keyIdIn}
+use Rattle.rules.specs.Header.{headerLength, address2, priority}
+use Rattle.rules.specs.Nonce.{ccmpOf, extended, keyIdIn, number}
 use Rattle.rules.specs.Mode.{added}
+use Rattle.rules.specs.Windows.{takes}
+use Rattle.rules.specs.Records.{windowOf}
 use Rattle.rules.specs.Answers.{outside}
 use Rattle.rules.proofs.Fields.{header-range, priority-below}
 use Rattle.rules.proofs.Passing.{inside}
+use Rattle.rules.proofs.Steps.{sound-size}
 use Rattle.ccmp.proofs.Headers.{Fields, fields-of}
 use Rattle.ccmp.proofs.Keys.{extended-not, extended-set, id-other, id-same}
 use Rattle.ccmp.proofs.Verdicts.{Headed, headed}
@@ -154,20 +157,34 @@ returns-5 c =
       id-other (F s) (s .args .header .length) (fields s .length-is) _ (c .if5 .taken),
     )
 
+window-of-requires : tie.Need-window-of-requires
+window-of-requires c κs =
+    let s = start4 (c .before .before) in
+    omega (arith, fields s .priority-is, priority-below (F s))
+
 number-at-requires : tie.Need-number-at-requires
 number-at-requires c κs =
-    let e₁ = else2 (else3 (c .before .before .before .before) .before) .before in
+    let e₁ = else2 (else3 (c .before .before .before) .before) .before in
     (fields (start e₁) .length-is, omega (arith, long e₁))
 
-array-read-if6 : tie.Need-array-read-if6
-array-read-if6 c =
-    let s = start4 (c .before .before .before .before .before) in
-    omega (arith, fields s .priority-is, priority-below (F s))
+takes-requires : tie.Need-takes-requires
+takes-requires c κs =
+    let found = c .before in
+    let s = start4 (found .before .before .before) in
+    rw (found .window-of .ensures) (sound-size (s .args .r) (s .pre .0) .1)
+
+-- whether the number is taken, as it is tested
+taken-is : (c : tie.After-takes) → let s = start4 (c .before .before .before .before .before) in
+    takes (windowOf (s .args .r) (priority (F s))) (number (F s)) ≡ c .takes .result
+taken-is c =
+    let read = c .before in
+    let found = read .before in
+    let s = start4 (found .before .before .before) in
+    rw (← fields s .priority-is, ← read .number-at .ensures, ← found .window-of .ensures) (sym (c .takes .ensures))
 
 returns-6 : tie.Need-returns-6
 returns-6 c =
-    let read = c .before in
-    let e₅ = read .before .before .before in
+    let e₅ = c .before .before .before .before in
     let e₄ = e₅ .before .before in
     let e₃ = else3 e₄ in
     let e₂ = else2 (e₃ .before) in
@@ -184,15 +201,12 @@ returns-6 c =
       peer e₃,
       ext e₄,
       id-is e₅,
-      ← read .number-at .ensures,
-      ← fields s .priority-is,
-      le-leb _ _ (c .if6 .taken),
+      taken-is (c .before) ∙ not-true _ (c .if6 .taken),
     )
 
 returns-7 : tie.Need-returns-7
 returns-7 c =
-    let read = c .before in
-    let e₅ = read .before .before .before in
+    let e₅ = c .before .before .before .before in
     let e₄ = e₅ .before .before in
     let e₃ = else3 e₄ in
     let e₂ = else2 (e₃ .before) in
@@ -209,9 +223,7 @@ returns-7 c =
       peer e₃,
       ext e₄,
       id-is e₅,
-      ← read .number-at .ensures,
-      ← fields s .priority-is,
-      lt-leb _ _ (c .if6 .left),
+      taken-is (c .before) ∙ not-false _ (c .if6 .left),
       h .is,
     )
 
@@ -236,9 +248,8 @@ later-tests-spec =
     shared-slice-read-octet
     returns-4
     returns-5
-    (λ c. search needs)
+    window-of-requires
     number-at-requires
-    (λ c. search needs)
-    array-read-if6
+    takes-requires
     returns-6
     returns-7)

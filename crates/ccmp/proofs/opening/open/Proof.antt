@@ -12,7 +12,7 @@ use Rattle.rules.specs.Mode.{added}
 use Rattle.rules.specs.Answers.{noneApplies}
 use Rattle.rules.specs.Opening.{openedFrame, earlierTests, Openable}
 use Rattle.rules.specs.declared.Receiver.{Receiver}
-use Rattle.rules.proofs.Passing.{open-passes}
+use Rattle.rules.proofs.Passing.{open-passes, tests-sound}
 use Rattle.rules.proofs.Fields.{priority-below}
 use Rattle.ccmp.proofs.Headers.{Fields, fields-of}
 use Rattle.ccmp.proofs.Verdicts.{passes}
@@ -77,8 +77,13 @@ returns c =
 
 after-opening-requires : tie.Need-after-opening-requires
 after-opening-requires c κs =
-    let h = c .before .before .before .before .before .before .before in
-    omega (arith, fields h .priority-is, priority-below (F (tested h)))
+    let read = c .before .before .before .before .before in
+    let h = read .before .before in
+    let t = tested h in (
+      omega (arith, fields h .priority-is, priority-below (F t)),
+      tests-sound (R t) (F t) (length (O t)) (passed h .1),
+      rw (fields h .priority-is, read .number-at .ensures) (openable h .taken),
+    )
 
 sub-length : tie.Need-sub-t20
 sub-length c =

@@ -1,4 +1,4 @@
--- The loop stays inside the array.
+-- The loop stays inside the arrays.
 use Prim.Native.Nat.{_≤_, _-_}
 use Rattle.rules.specs.Limits.{priorities}
 use borrow.Author.Needs.{needs}
@@ -6,10 +6,10 @@ use Rattle.table_limits.proofs.line.print_counters.Statement.{statement
 use Rattle.table_limits.proofs.line.print_counters.Tie as tie
 
 abbrev Inv-loop : tie.InvT-loop
-Inv-loop counters i₀ t4 t5 i = i ≤ priorities
+Inv-loop counters bits i₀ t5 t6 i = i ≤ priorities
 
 abbrev μ-loop : tie.MeasureT-loop
-μ-loop counters i₀ t4 t5 i = priorities - i
+μ-loop counters bits i₀ t5 t6 i = priorities - i
 
 pub print-counters-spec : {M : Type 1} → statement M
 print-counters-spec =
@@ -25,6 +25,11 @@ print-counters-spec =
     (λ c κs. search needs)
     (λ c. search needs)
     (λ c κs. search needs)
+    (λ c. search needs)
+    (λ c. search needs)
+    (λ c κs. search needs)
+    (λ c. search needs)
+    (λ c. search needs)
     (λ c. search needs)
     (λ c. search needs)
     (λ c κs. search needs)
