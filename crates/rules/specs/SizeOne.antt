@@ -30,7 +30,7 @@ OldRule =
 abbrev pub AboveOpened : Receiver → List Call → ℕ → Sent → Type 0
 AboveOpened r ds j x = (j′ n′ k′ : ℕ) → j′ < j → openAnswerAt r ds j′ ≡ Done n′ (x .priority) k′ → n′ < x .number
 
--- demand 3's first half
+-- demand 3's first half in document 01's words
 abbrev pub OldDelivered : Type 0
 OldDelivered =
     (key address : List ℕ) (keyId : ℕ) → receiverAnswer keyId smallWindow ≡ Done 0 0 0
@@ -41,7 +41,7 @@ abbrev pub AboveOpenedAt : Table → ℕ → List TableCall → ℕ → Sent →
 AboveOpenedAt t i ds j x =
     (j′ n′ k′ : ℕ) → j′ < j → opensAt (before t ds j′) i (callAt ds j′) ≡ true → tableAnswerAt t ds j′ ≡ Done n′ (x .priority) k′ → n′ < x .number
 
--- and for a table
+-- the same for an entry of a table
 abbrev pub OldTableDelivered : Type 0
 OldTableDelivered =
     (cs : List TableCall) → OctetCalls cs → (x : Pairing) → x .«may_receive» ≡ true → x .size ≡ smallWindow
