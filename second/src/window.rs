@@ -5,19 +5,12 @@ use crate::frame::MAX_NUMBER;
 /// How many numbers a window reaches over, its greatest among them.
 pub const SIZES: [u8; 2] = [1, 16];
 
-#[derive(Clone, Debug, Default, Eq)]
+#[derive(Clone, Debug, Default, PartialEq, Eq)]
 pub struct Window {
     /// 0 where none was opened.
     pub greatest: u64,
     /// The numbers opened that are less than the size below the greatest, in ascending order. A window that isn't sound may hold 0 or less too.
     pub opened: Vec<i128>,
-}
-
-impl PartialEq for Window {
-    // Most are empty, and two empty vectors take longer to compare as a whole.
-    fn eq(&self, other: &Self) -> bool {
-        self.greatest == other.greatest && self.opened.iter().eq(&other.opened)
-    }
 }
 
 impl Window {

@@ -21,9 +21,9 @@ use Rattle.rules.specs.declared.Sender.{Sender}
 use Rattle.rules.specs.declared.Receiver.{Receiver}
 use Rattle.rules.specs.declared.Answer.the-variants.{Done, Refused}
 use Rattle.rules.proofs.Sends.{Genuine, sent-at, Opens, sent-answer, opens}
-use Rattle.rules.proofs.Counters.{taken-when, held, replays}
+use Rattle.rules.proofs.Windows.{taken-when, held, replays}
 use Rattle.rules.proofs.Steps.{windows-sound, zeros, new-windowed}
-use Rattle.rules.proofs.Runs.{Keeps, open-runs, counters, reordered}
+use Rattle.rules.proofs.Runs.{Keeps, open-runs, windows, reordered}
 
 refused-not-done : (n p k : ℕ) → Refused 10 ≡ Done n p k → ⊥
 refused-not-done n p k e = let z : _≡_ {A = ℕ} 0 1 = cc in omega arith
@@ -74,8 +74,8 @@ module _ (key address : List ℕ) (keyId size : ℕ) (fits : receiverFits keyId 
   delivered : Delivered InWindow s₀ r₀
   delivered cs ds x j (i, l, is) od d =
       let g : Genuine (withLast s₀ i) x = rw (zero-add, is) at (sent-at s₀ cs i l) in
-      let kept = held open-runs (counters r₀) noCall r₀ ds new-keeps (λ i l. od i) j (omega (arith, d .below)) in
-      let window = replays open-runs (counters r₀) noCall r₀ ds new-keeps (λ i l. od i) (x .priority) in
+      let kept = held open-runs (windows r₀) noCall r₀ ds new-keeps (λ i l. od i) j (omega (arith, d .below)) in
+      let window = replays open-runs (windows r₀) noCall r₀ ds new-keeps (λ i l. od i) (x .priority) in
       let when = taken-when window (zeros priorities (x .priority)) j (x .number) (omega (arith, d .below)) (omega (arith, g .number-is)) in
       rw (d .unchanged)
       (decided s₀ i x g (openRun r₀ (take j ds)) (at ds j .room) (kept .sound)

@@ -23,7 +23,7 @@ use Rattle.rules.specs.declared.Answer.the-variants.{Done, Refused}
 use Rattle.rules.proofs.Fields.{priority-below, number-most}
 use Rattle.rules.proofs.Passing.{open-done}
 use Rattle.rules.proofs.Standing.{stays-sound}
-use Rattle.rules.proofs.Counters.{Moves}
+use Rattle.rules.proofs.Windows.{Moves}
 
 -- a test of each number below n
 module _ (b : ℕ → Bool) where

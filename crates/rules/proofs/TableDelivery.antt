@@ -29,7 +29,7 @@ use Rattle.rules.specs.declared.Receiver.{Receiver}
 use Rattle.rules.specs.declared.Table.{Table}
 use Rattle.rules.specs.declared.Window.{Window}
 use Rattle.rules.proofs.Steps.{DoneIn, zeros, moves}
-use Rattle.rules.proofs.Counters.{Moves, taken-when, Counters, held, replays}
+use Rattle.rules.proofs.Windows.{Moves, taken-when, Windows, held, replays}
 use Rattle.rules.proofs.Sends.{Genuine, sent-at, still-matches}
 use Rattle.rules.proofs.Delivery.{decided}
 use Rattle.rules.proofs.Projecting.{step-made, step-receiver, own-opening, table-runs}
@@ -77,10 +77,10 @@ record Stays (t : Table) (i : ℕ) (u : Table) : Type 0 where
   good : Good u
   made : asMade (entryAt u i) ≡ asMade (entryAt t i)
 
-counters : (t : Table) (i : ℕ)
-    → Counters tableNext (λ u. windowAt u i) (OpensAt i)
+windows : (t : Table) (i : ℕ)
+    → Windows tableNext (λ u. windowAt u i) (OpensAt i)
     (λ u c. (changes u i c ≡ false) × Octets (lent c .frame)) (Stays t i)
-counters t i =
+windows t i =
     record {
       keeps = λ {u} c h f. record { good = next-good u (h .good) c (f .1); made = step-made u i c (f .0) ∙ h .made };
       sound = λ h. h .good .windowed i .windows;
@@ -102,7 +102,7 @@ module _ (t : Table) (i : ℕ) (good : Good t) (used : entryAt t i .used ≡ tru
     u = before t ds j
 
     stays : Stays t i u
-    stays = held table-runs (counters t i) (toOpen noCall) t ds start fit j (omega (arith, d .below))
+    stays = held table-runs (windows t i) (toOpen noCall) t ds start fit j (omega (arith, d .below))
 
     match : Match s (entryAt u i .receiver)
     match =
@@ -128,7 +128,7 @@ module _ (t : Table) (i : ℕ) (good : Good t) (used : entryAt t i .used ≡ tru
 
     when : (takes (windowAt u i (x .priority)) (x .number) ≡ true) ↔ InWindowAt t i ds j x
     when =
-        let window = replays table-runs (counters t i) (toOpen noCall) t ds start fit (x .priority) in
+        let window = replays table-runs (windows t i) (toOpen noCall) t ds start fit (x .priority) in
         taken-when window (empty (x .priority)) j (x .number) (omega (arith, d .below)) (omega (arith, g .number-is))
 
     delivered-at : (TableOpensTo t ds j x ↔ InWindowAt t i ds j x) × (¬ (InWindowAt t i ds j x) → TableReplayed t ds j)

@@ -26,7 +26,7 @@ use Rattle.rules.proofs.Passing.{any-done, open-done}
 use Rattle.rules.proofs.Steps.{DoneIn}
 use Rattle.rules.proofs.States.{Runs}
 use Rattle.rules.proofs.Tallies.{plusOne}
-use Rattle.rules.proofs.Counters.{Moves, Counters}
+use Rattle.rules.proofs.Windows.{Moves, Windows}
 use Rattle.rules.proofs.Channels.{Channelled, orders-alike}
 use Rattle.rules.proofs.Runs.{Count, answersOf, valueOf, same-counts, count-moves, Keeps, same-windows, same-window, same-output}
 use Rattle.rules.proofs.Searching.{first-alike, open-comes}
@@ -137,8 +137,8 @@ moves t none c a = among countedByTable (answerNumber a)
 moves t (some (i, d)) c a = opensAt t i (toOpen c) && among (answersOf d) (answerNumber a)
 
 module _ {t : Table} (good : Good t) where
-  counters : Counters next window (λ u c. Opens t c (answer u c)) (λ u c. Octets (c .frame)) (Kin t)
-  counters =
+  windows : Windows next window (λ u c. Opens t c (answer u c)) (λ u c. Octets (c .frame)) (Kin t)
+  windows =
       record {
         keeps = kin-next;
         sound = λ k q. k .good .windowed (q .0) .windows (q .1);
@@ -225,7 +225,7 @@ module _ {t : Table} (good : Good t) where
         λ j. record { entries = entries j; «format_errors» = same-count none j }
 
   channelled : Channelled (Through t) next answer output window (Opens t) count (moves t) (Kin t)
-  channelled = record { counters = counters; within = within; rests = rests; shows = shows; counts = counts; whole = same-table }
+  channelled = record { windows = windows; within = within; rests = rests; shows = shows; counts = counts; whole = same-table }
 
 -- the deliveries as calls on a table
 take-map : {X Y : Type 0} (f : X → Y) (i : ℕ) (xs : List X) → take i (map f xs) ≡ map f (take i xs)

@@ -36,8 +36,8 @@ TableOpenOrder =
     tableOpenAnswer t f room
     ≡ firstOf (tableOpenTests t f (length room) ++ (replayTest r f ++ codeTest (r .key) f)) (Done (number f) (priority f) (length f - added))
 
--- adding to a sound table under a key ID and with a size that fit: 17 where the key is in use, and otherwise 16 exactly where the triple is new and no
--- entry is free
+-- adding to a sound table under a key ID and with a size that fit: 17 where the key is in use, and otherwise 16 exactly where the triple is
+-- new and no entry is free
 abbrev pub AddAnswers : Type 0
 AddAnswers =
     (t : Table) (x : Pairing) → soundTable t ≡ true → receiverFits (x .triple .«key_id») (x .size) ≡ true

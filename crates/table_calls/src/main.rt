@@ -86,51 +86,18 @@ fn u16_at(b: &[u8], i: usize) -> u16
     (wide(b[i]) + wide(b[i + 1]) * 256) as u16
 }
 
-// The bits of the windows.
-fn bits_at(b: &[u8], i: usize) -> [u16; PRIORITIES]
-    requires { ⌜ i + 32 ≤ length (now b) ⌝ }
+// The receiver with the windows of an entry: their counters from i on, and their bits from j on.
+fn with_windows(r: Receiver, b: &[u8], i: usize, j: usize) -> Receiver
+    requires { ⌜ (i + 128 ≤ length (now b)) × (j + 32 ≤ length (now b)) ⌝ }
 {
-    [
-        u16_at(b, i),
-        u16_at(b, i + 2),
-        u16_at(b, i + 4),
-        u16_at(b, i + 6),
-        u16_at(b, i + 8),
-        u16_at(b, i + 10),
-        u16_at(b, i + 12),
-        u16_at(b, i + 14),
-        u16_at(b, i + 16),
-        u16_at(b, i + 18),
-        u16_at(b, i + 20),
-        u16_at(b, i + 22),
-        u16_at(b, i + 24),
-        u16_at(b, i + 26),
-        u16_at(b, i + 28),
-        u16_at(b, i + 30),
-    ]
-}
-
-fn counters_at(b: &[u8], i: usize) -> [u64; PRIORITIES]
-    requires { ⌜ i + 128 ≤ length (now b) ⌝ }
-{
-    [
-        u64_at(b, i),
-        u64_at(b, i + 8),
-        u64_at(b, i + 16),
-        u64_at(b, i + 24),
-        u64_at(b, i + 32),
-        u64_at(b, i + 40),
-        u64_at(b, i + 48),
-        u64_at(b, i + 56),
-        u64_at(b, i + 64),
-        u64_at(b, i + 72),
-        u64_at(b, i + 80),
-        u64_at(b, i + 88),
-        u64_at(b, i + 96),
-        u64_at(b, i + 104),
-        u64_at(b, i + 112),
-        u64_at(b, i + 120),
-    ]
+    let mut s = r;
+    let mut p: usize = 0;
+    while p < PRIORITIES {
+        s.replay[p] = u64_at(b, i + 8 * p);
+        s.seen[p] = u16_at(b, j + 2 * p);
+        p += 1;
+    }
+    s
 }
 
 fn entry_at(b: &[u8], i: usize) -> Entry
@@ -144,17 +111,16 @@ fn entry_at(b: &[u8], i: usize) -> Entry
     };
     let peer = octets_6(b, i + 10);
     let key = octets_16(b, i + 16);
-    let replay = counters_at(b, i + 40);
-    let seen = bits_at(b, i + 185);
-    let receiver = Receiver {
+    let empty = Receiver {
         key,
         key_id: b[i + 9],
         peer,
         size: b[i + 184],
-        replay,
-        seen,
+        replay: [0; PRIORITIES],
+        seen: [0; PRIORITIES],
         counts,
     };
+    let receiver = with_windows(empty, b, i + 40, i + 185);
     let own = octets_6(b, i + 3);
     Entry {
         used: b[i] != 0,

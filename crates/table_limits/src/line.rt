@@ -11,6 +11,7 @@ use rules::ENTRIES;
 use rules::Entry;
 use rules::PRIORITIES;
 use rules::Pairing;
+use rules::Receiver;
 use rules::Table;
 use rules::Triple;
 use table::Answered;
@@ -25,21 +26,10 @@ fn same_key(a: [u8; 16], b: [u8; 16]) -> bool {
     octets::equal(&a, &b)
 }
 
-fn same_counters(a: [u64; PRIORITIES], b: [u64; PRIORITIES]) -> bool {
+fn same_windows(a: Receiver, b: Receiver) -> bool {
     let mut i: usize = 0;
     while i < PRIORITIES {
-        if a[i] != b[i] {
-            return false;
-        }
-        i += 1;
-    }
-    true
-}
-
-fn same_bits(a: [u16; PRIORITIES], b: [u16; PRIORITIES]) -> bool {
-    let mut i: usize = 0;
-    while i < PRIORITIES {
-        if a[i] != b[i] {
+        if a.replay[i] != b.replay[i] || a.seen[i] != b.seen[i] {
             return false;
         }
         i += 1;
@@ -71,10 +61,6 @@ fn same_pairing(a: Entry, b: Entry) -> bool {
 fn same_numbers(a: Entry, b: Entry) -> bool {
     let r = a.receiver;
     let s = b.receiver;
-    let counters = r.replay;
-    let other_counters = s.replay;
-    let bits = r.seen;
-    let other_bits = s.seen;
     let c = r.counts;
     let d = s.counts;
     a.last == b.last
@@ -82,8 +68,7 @@ fn same_numbers(a: Entry, b: Entry) -> bool {
         && c.replays == d.replays
         && c.decrypt_errors == d.decrypt_errors
         && c.opened == d.opened
-        && same_counters(counters, other_counters)
-        && same_bits(bits, other_bits)
+        && same_windows(r, s)
 }
 
 fn print_address(a: [u8; 6]) {
