@@ -9,11 +9,11 @@ use borrow.Author.Tests.{eqb-true, eq-eqb}
 use lib.Dec.{eqb}
 use lib.ListN.{length, take, drop, getD, length-take, length-drop}
 use lib.Seq.{take-all}
-use Rattle.octets.specs.Octets.{Octets, more, same}
+use Rattle.octets.specs.Octets.{Octets, more, same, word}
 use Rattle.octets.proofs.Booleans.{both, iff}
 use Rattle.octets.proofs.Lists.{each, each-is}
 use Rattle.rules.specs.Limits.{keyOctets}
-use Rattle.table.specs.Words.{wordOctets, word}
+use Rattle.table.specs.Words.{wordOctets}
 
 -- the first octet, and the rest
 step : (x y m n : ℕ) → x < 256 → y < 256 → eqb (x + 256 * m) (y + 256 * n) ≡ eqb x y && eqb m n

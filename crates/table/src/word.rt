@@ -4,9 +4,9 @@ use rules::KEY_OCTETS;
 ghost use mathlib.Core.Path.{_≡_};
 ghost use Prim.Native.Nat.{_+_, _≤_, _<_};
 ghost use lib.ListN.{take, drop};
-ghost use Rattle.octets.specs.Octets.{Octets, same};
+ghost use Rattle.octets.specs.Octets.{Octets, same, word};
 ghost use Rattle.rules.specs.Limits.{keyOctets};
-ghost use Rattle.table.specs.Words.{word, wordOctets};
+ghost use Rattle.table.specs.Words.{wordOctets};
 
 // The octets of a word.
 const WORD_OCTETS: usize = 8;

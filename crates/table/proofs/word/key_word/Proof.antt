@@ -2,9 +2,8 @@
 use mathlib.Core.Path.{_≡_, ap}
 use native.Mathlib.Omega.{arith}
 use lib.ListN.{length}
-use Rattle.octets.specs.Octets.{none, more}
+use Rattle.octets.specs.Octets.{none, more, word}
 use Rattle.rules.specs.Limits.{keyOctets}
-use Rattle.table.specs.Words.{word}
 use Rattle.table.proofs.Words.{octet-read, part-read}
 use borrow.Author.Needs.{needs}
 use Rattle.table.proofs.word.key_word.Statement.{statement}

@@ -7,9 +7,9 @@ use native.Mathlib.Omega.{arith}
 use borrow.Author.Tests.{eq-eqb, ne-eqb}
 use lib.Dec.{eqb}
 use lib.ListN.{length}
-use Rattle.octets.specs.Octets.{Octets, same}
+use Rattle.octets.specs.Octets.{Octets, same, word}
 use Rattle.rules.specs.Limits.{keyOctets}
-use Rattle.table.specs.Words.{wordOctets, word}
+use Rattle.table.specs.Words.{wordOctets}
 use Rattle.table.proofs.Words.{words-same, half, half-size, halves-same}
 use borrow.Author.Needs.{needs}
 use Rattle.table.proofs.word.same_key.Statement.{statement}
