@@ -1,8 +1,10 @@
-//! The proved code for Rust: what `crates/bench` exports.
+//! The proved code for Rust: what `crates/bench` exports, and in `host` what `crates/kondrivai` does.
 
 use second::fragment::Joiner;
 use second::frame::{Receiver, Sender};
 use second::window::Window;
+
+pub mod host;
 
 /// A slice passes as a pointer and a length.
 pub mod exported {

@@ -1,11 +1,12 @@
 //! The most stack that one seal, open, split and join take, as it shows: each runs on a stack filled with a pattern, which is then looked
 //! through for the lowest octet that changed. Every header shape and body length is tried; opening at both sizes, also a late frame, with a
 //! right and a wrong code, splitting into as many fragments as may be, and joining of a first fragment, a next one, the last one and one that
-//! is dropped. And that of bench's functions on a table with one camera, which hold three tables of their own beside what the two calls that
-//! they make take.
+//! is dropped. That of the calls of a C host, sealing and opening alike. And that of bench's functions on a table with one camera, which hold three
+//! tables of their own beside what the two calls that they make take.
 
 use proved::exported::{bench_ccmp_open, bench_ccmp_seal, bench_join, bench_split, bench_table_add, bench_table_open, bench_table_seal};
-use proved::{Record, Told};
+use proved::host::exported::{kondrivai_fresh_receiver, kondrivai_fresh_sender, kondrivai_open, kondrivai_seal};
+use proved::{host, Record, Told};
 use second::fragment::{Joiner, MAX_FRAGMENTS, MAX_MESSAGE, MAX_SIZE, MIN_SIZE, MORE_FRAG};
 use second::frame::{header_length, Receiver, Sender, ADDED, MAX_BODY};
 use second::sample::CONTROLS;
@@ -92,6 +93,22 @@ fn with_table(stack: &mut Stack, filling: u8, function: usize, own: [u8; 6], pee
     octets
 }
 
+/// A call of a C host on a record in a buffer.
+fn hosted(stack: &mut Stack, filling: u8, function: usize, buffer: &[u8], frame: &mut [u8], out: &mut [u8]) -> usize {
+    let mut buffer = buffer.to_vec();
+    let lent = [address_of(&mut buffer[..]), buffer.len(), address_of(frame), frame.len(), address_of(out), out.len()];
+    octets_used(stack, filling, function, &lent)
+}
+
+/// One that makes such a record.
+fn made(stack: &mut Stack, filling: u8, function: usize, octets: usize) -> usize {
+    let (mut buffer, mut key, mut address) = (vec![0u8; octets], [7u8; 16], ADDRESS);
+    let asked = [address_of(&mut buffer[..]), octets, address_of(&mut key), key.len(), 0, address_of(&mut address), 16];
+    let used = octets_used(stack, filling, function, &asked);
+    assert_ne!(buffer[0], 0);
+    used
+}
+
 const ADDRESS: [u8; 6] = [2, 0, 0, 0, 0, 1];
 
 fn plain(control: [u8; 2], length: usize) -> Vec<u8> {
@@ -121,6 +138,29 @@ fn most_for_frames(stack: &mut Stack, filling: u8, control: [u8; 2]) -> [usize; 
         }
     }
     [sealed, opened]
+}
+
+/// Of the calls of a C host.
+fn most_for_hosts(stack: &mut Stack, filling: u8, control: [u8; 2]) -> [usize; 4] {
+    let [seal, open] = [kondrivai_seal as *const () as usize, kondrivai_open as *const () as usize];
+    let [fresh_sender, fresh_receiver] = [kondrivai_fresh_sender as *const () as usize, kondrivai_fresh_receiver as *const () as usize];
+    let sender = host::sender_buffer(&Sender::fresh([7; 16], 0, ADDRESS).1).expect("a sender that fits");
+    let receivers = SIZES.map(|size| host::receiver_buffer(&Record::from(&Receiver::fresh([7; 16], 0, ADDRESS, size).1)).expect("a receiver that fits"));
+    let (mut sealed, mut opened) = (0, 0);
+    for length in 1..=MAX_BODY {
+        let mut plain = plain(control, length);
+        let (mut text, mut out) = (vec![0; plain.len() + ADDED], vec![0; plain.len()]);
+        sealed = sealed.max(hosted(stack, filling, seal, &sender, &mut plain, &mut text));
+        for receiver in &receivers {
+            opened = opened.max(hosted(stack, filling, open, receiver, &mut text, &mut out));
+            assert_eq!(plain, out);
+            text[header_length(&control) + 8] ^= 1;
+            opened = opened.max(hosted(stack, filling, open, receiver, &mut text, &mut out));
+            text[header_length(&control) + 8] ^= 1;
+        }
+    }
+    let made = [made(stack, filling, fresh_sender, host::SENDER_OCTETS), made(stack, filling, fresh_receiver, host::RECEIVER_OCTETS)];
+    [made[0], made[1], sealed, opened]
 }
 
 /// Of splitting and joining.
@@ -168,17 +208,19 @@ fn most_for_tables(stack: &mut Stack, filling: u8, control: [u8; 2]) -> [usize; 
 
 fn main() {
     let mut stack = Box::new(Stack([0; STACK]));
-    let mut most = [0; 7];
+    let mut most = [0; 11];
     // Two fillings: what a call writes in the lowest octet may be one of them.
     for (filling, control) in [0xa5, 0x5a].into_iter().flat_map(|filling| CONTROLS.map(|control| (filling, control))) {
         let [sealed, opened] = most_for_frames(&mut stack, filling, control);
         let [split, joined] = most_for_fragments(&mut stack, filling, control);
         let [table_add, table_seal, table_open] = most_for_tables(&mut stack, filling, control);
-        let these = [sealed, opened, split, joined, table_add, table_seal, table_open];
+        let on_records = [sealed, opened, split, joined, table_add, table_seal, table_open];
+        let these = [&on_records[..], &most_for_hosts(&mut stack, filling, control)].concat();
         most = std::array::from_fn(|which| most[which].max(these[which]));
     }
-    let names = ["bench_ccmp_seal", "bench_ccmp_open", "bench_split", "bench_join", "bench_table_add", "bench_table_seal", "bench_table_open"];
-    for (name, octets) in names.into_iter().zip(most) {
+    let on_records = ["bench_ccmp_seal", "bench_ccmp_open", "bench_split", "bench_join", "bench_table_add", "bench_table_seal", "bench_table_open"];
+    let on_buffers = ["kondrivai_fresh_sender", "kondrivai_fresh_receiver", "kondrivai_seal", "kondrivai_open"];
+    for (name, octets) in on_records.into_iter().chain(on_buffers).zip(most) {
         println!("{name}: {octets} octets");
     }
 }

@@ -1,5 +1,6 @@
 // What a C host links: sealing and opening on a record that lies in a buffer, and the making of such records. docs/LAYOUT.md has the layout,
 // include/kondrivai.h the calls as C sees them. A slice passes as a pointer and a length.
+use crate::answer::number_of;
 use crate::number::key_at;
 use crate::receiver::RECEIVER_OCTETS;
 use crate::receiver::get_receiver;
@@ -10,12 +11,11 @@ use crate::sender::get_sender;
 use crate::sender::is_sender;
 use crate::sender::put_sender;
 use rules::ADDRESS_OCTETS;
-use rules::Answer;
 use rules::KEY_OCTETS;
 ghost use mathlib.Core.Path.{_≡_};
-ghost use Rattle.rules.specs.Answers.{answerNumber};
 ghost use Rattle.kondrivai.specs.Exports.{sealNumber, sealBuffer, sealRoom, openNumber, openBuffer, openRoom, canHold, freshSenderNumber, freshSenderBuffer, freshReceiverNumber, freshReceiverBuffer};
 
+mod answer; // answer.rt: the number of an answer
 mod front; // front.rt: what a buffer is
 mod number; // number.rt: numbers and strings in a buffer
 mod receiver; // receiver.rt: a receiver's buffer
@@ -23,15 +23,6 @@ mod sender; // sender.rt: a sender's buffer
 
 // What a buffer that is no record is answered.
 const NO_RECORD: u32 = 1;
-
-fn number_of(a: Answer) -> u32
-    ensures { λ r. ⌜ r ≡ answerNumber a ⌝ }
-{
-    match a {
-        Answer::Done(_, _, _) => 0,
-        Answer::Refused(n) => n as u32,
-    }
-}
 
 // Whether a buffer has the octets of its record, and a key its own.
 fn can_hold(b: &[u8], size: usize, key: &[u8]) -> bool

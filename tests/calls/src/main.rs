@@ -2,13 +2,14 @@
 //! every octet of the room.
 //!
 //!   calls [CALLS [SEED]]        784,000 calls and seed 1 where none is given; a seed gives 250 calls on frames, 80 on fragments and 160 on
-//!                               tables
+//!                               tables; each on frames is made on a record in a buffer too, as a C host makes it
 
 mod air;
 mod any;
 mod call;
 mod fragments;
 mod generate;
+mod host;
 mod program;
 mod seen;
 mod tables;
@@ -29,6 +30,8 @@ const WHOLE_RUN: usize = 1_600 * LIST;
 const OFTEN: usize = 200;
 /// And so many calls on tables with no entry in use, one, all but one or all.
 const AT_LIMITS: usize = 50_000;
+/// And so many on records in buffers.
+const HOSTED: usize = 300_000;
 
 fn stop(words: String) -> ! {
     eprintln!("{words}");
@@ -41,6 +44,7 @@ fn main() {
     let first_seed = numbers.get(1).copied().unwrap_or(1);
     let lists = calls.div_ceil(LIST);
     let mut seen = Seen::default();
+    let mut hosted = 0;
     for seed in first_seed..first_seed + lists as u64 {
         let (mut on_frames, mut on_fragments, mut on_tables) = (List::new(seed), Fragments::new(seed), Tables::new(seed));
         for number in 0..LIST {
@@ -53,6 +57,10 @@ fn main() {
             let (ours, theirs) = (call.by_proved(), call.by_second());
             if ours != theirs {
                 stop(format!("seed {seed}, call {number}: {call}\nproved: {ours}\nsecond: {theirs}"));
+            }
+            match host::same(&call, &ours) {
+                Ok(made) => hosted += usize::from(made),
+                Err(words) => stop(format!("seed {seed}, call {number}: {call}\n{words}")),
             }
             seen.call(&call, &ours);
             list.took(&call, &ours);
@@ -70,5 +78,10 @@ fn main() {
     if calls >= WHOLE_RUN && at_limits < AT_LIMITS {
         stop(format!("these are fewer than {AT_LIMITS}"));
     }
+    println!("calls through a buffer: {hosted}");
+    if calls >= WHOLE_RUN && hosted < HOSTED {
+        stop(format!("these are fewer than {HOSTED}"));
+    }
+    println!("calls on buffers with another length or octet: {}", host::buffers(first_seed));
     println!("{calls} calls from seed {first_seed} on: all alike");
 }
