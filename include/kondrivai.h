@@ -2,13 +2,15 @@
  * Kondrivai for a C host: 802.11 data frames sealed and opened by CCMP, on a record that lies in a buffer of the host's.
  * Link libkondrivai.a, which needs memcpy and memset and nothing else. docs/C-HOST.md shows how, docs/LAYOUT.md says what a buffer holds.
  *
- * Of every call:
+ * What every call does: it takes any octets, ends, keeps to what it is lent, and answers a number, below. It has no state of its own,
+ * allocates nothing and calls nothing back. It wipes nothing: octets of the key may be left on the stack that it used.
  *
- * - It takes any octets in any lengths, ends, keeps to what it is lent, and answers a number, below. It holds nothing from one call to
- *   the next, has no state of its own, allocates nothing and calls nothing back.
- * - The host owns every buffer. What is lent to one call, the record, frame, output, key and address, must not overlap, and nothing else
- *   may read or write it during the call. A pointer needs no alignment and is never null; a length is at most SIZE_MAX / 2.
- * - Threads: calls on different records may run at the same time. Two calls on one record may not.
+ * What every call asks of the host, who owns every buffer:
+ *
+ * - No pointer is null, not even where its length is 0, and no length is over SIZE_MAX / 2. Alignment is free.
+ * - What is written, the record and the output, overlaps nothing else that is lent. What is only read may overlap.
+ * - Nobody else reads or writes what is lent before the call returns. Calls on different records may run at the same time, in different
+ *   threads; two calls on one record may not.
  * - A record is changed by these calls alone. The host may copy it, store it and read it; of two copies only one is used from then on.
  */
 #ifndef KONDRIVAI_H
@@ -33,38 +35,47 @@ extern "C" {
 #define KONDRIVAI_MOST_PLAIN 2332
 #define KONDRIVAI_MOST_SEALED 2348
 
-/* The sizes of a receiver's replay windows: numbers of a priority must rise, or a frame may come late by up to 15 numbers. */
+/*
+ * The sizes of a receiver's replay windows. Each priority has one, and what has no QoS Control is of priority 0. Small: a frame's packet number
+ * must be above all opened in its priority. Large: it may be up to 15 below the greatest of these, if it wasn't opened. A sender numbers all its
+ * frames together, whatever their priority.
+ */
 #define KONDRIVAI_SMALL_WINDOW 1
 #define KONDRIVAI_LARGE_WINDOW 16
 
-/* Where in a buffer the number of the last frame sealed stands, in 6 octets, and the counts, in 4 octets each, least significant first. */
+/* Where in a sender's buffer the last packet number used stands, 0 before the first: 6 octets, least significant first. */
 #define KONDRIVAI_LAST_NUMBER_AT 25
+
+/* Where in a receiver's buffer its counts stand: 4 octets each, least significant first. They go back to 0 after 4,294,967,295. */
 #define KONDRIVAI_FORMAT_ERRORS_AT 26
 #define KONDRIVAI_REPLAYS_AT 30
 #define KONDRIVAI_DECRYPT_ERRORS_AT 34
 #define KONDRIVAI_OPENED_AT 38
 
-/* The answers. Where several apply, it is the first in the order 1, 2, 3, 4, 2 again, 5, 6, 7, then 12, or 8 to 11. */
+/*
+ * The answers. Where several apply, it is the first of these tests: 1, 2 for fewer than 24 octets, 3, 4, 2 for fewer than the header has, 5, 6, 7,
+ * and then 12 in sealing, or 8, 9, 10, 11 in opening.
+ */
 enum kondrivai_answer {
     KONDRIVAI_DONE = 0,
-    KONDRIVAI_RECORD = 1,    /* no record of the call's kind and layout in the buffer, a wrong length, or a record that is not sound */
-    KONDRIVAI_SHORT = 2,     /* the frame is shorter than its header */
-    KONDRIVAI_KIND = 3,      /* no data frame of version 0, or one without data */
-    KONDRIVAI_PROTECTED = 4, /* Protected is set in a frame to seal, or clear in one to open */
-    KONDRIVAI_BODY = 5,      /* the octets after the header are too few or too many: to seal 1 to 2,296, to open 17 to 2,312 */
-    KONDRIVAI_ROOM = 6,      /* the output is too small */
-    KONDRIVAI_ADDRESS = 7,   /* A2 is not the record's address */
-    KONDRIVAI_EXTENDED = 8,  /* opening: ExtIV is clear */
-    KONDRIVAI_KEY_ID = 9,    /* opening: the key ID is not the record's */
-    KONDRIVAI_REPLAY = 10,   /* opening: the packet number was opened before in its priority, or is too old to tell */
-    KONDRIVAI_INTEGRITY = 11, /* opening: the integrity code is wrong: another key, or the frame was changed */
-    KONDRIVAI_SPENT = 12     /* sealing: the sender has used the last packet number; take a new key */
+    KONDRIVAI_RECORD = 1,     /* no record of the call's kind and layout in the buffer, a wrong length, or a record that is not sound */
+    KONDRIVAI_SHORT = 2,      /* the frame has fewer than 24 octets, or fewer than its header */
+    KONDRIVAI_KIND = 3,       /* the version is not 0, the type is not data, or the subtype has no data (0x40 in the first octet) */
+    KONDRIVAI_PROTECTED = 4,  /* Protected is set in a frame to seal, or clear in one to open */
+    KONDRIVAI_BODY = 5,       /* the octets after the header are not 1 to 2,296 in a frame to seal, 17 to 2,312 in one to open */
+    KONDRIVAI_ROOM = 6,       /* the output is too small */
+    KONDRIVAI_ADDRESS = 7,    /* A2 is not the record's address */
+    KONDRIVAI_EXTENDED = 8,   /* opening: ExtIV is clear */
+    KONDRIVAI_KEY_ID = 9,     /* opening: the key ID is not the record's */
+    KONDRIVAI_REPLAY = 10,    /* opening: the packet number is 0, was opened before in its priority, or is too far below the greatest there */
+    KONDRIVAI_INTEGRITY = 11, /* opening: the integrity code is wrong: another key, or what it protects was changed on the way */
+    KONDRIVAI_SPENT = 12      /* sealing: the last packet number is used; take a new key */
 };
 
 /*
  * Makes a sender that has sealed nothing in the buffer `record`, whatever that held before.
  *
- * key      KONDRIVAI_KEY_OCTETS octets, secret, and never used by a sender before: its numbers start at 1
+ * key      KONDRIVAI_KEY_OCTETS octets, secret. No sender with this address has ever used it: the numbers start at 1
  * key_id   0 to 3
  * address  the host's own, which stands in A2 of what it seals
  *
@@ -89,7 +100,8 @@ uint32_t kondrivai_fresh_receiver(
 
 /*
  * Seals the plain frame, header and body without frame check sequence, into the first frame_octets + KONDRIVAI_ADDED_OCTETS octets of
- * `out`, under the sender's next packet number. The rest of `out` is kept.
+ * `out`, under the sender's next packet number: the header with Protected set, the CCMP header, the body encrypted, the integrity code. The
+ * rest of `out` is kept.
  *
  * Answers 0, or 1 to 7 or 12; then neither `out` nor `record` has changed. It never uses a number twice.
  */
@@ -98,7 +110,7 @@ uint32_t kondrivai_seal(
 
 /*
  * Opens the sealed frame into the first frame_octets - KONDRIVAI_ADDED_OCTETS octets of `out`: the header as it came, with Protected
- * clear, and the body. The rest of `out` is kept.
+ * clear, and the body. The rest of `out` is kept. Not all of a header is protected by the code: docs/C-HOST.md says what is not.
  *
  * Answers 0, or 1 to 11; then `out` has not changed, and of `record` at most one count: 2 to 5 and 7 to 9 are format errors, 10 a replay,
  * 11 a decrypt error, 1 and 6 are not counted. It never writes a body whose integrity code is wrong, and never opens a frame twice.

@@ -1,5 +1,6 @@
 //! The calls that a C host makes, on a record in a buffer, and the layout of these by docs/LAYOUT.md.
 
+use crate::exported::{bench_buffer_open, bench_buffer_seal};
 use crate::Record;
 use second::frame::{Sender, MAX_NUMBER};
 
@@ -34,6 +35,16 @@ pub fn seal(record: &mut [u8], frame: &[u8], out: &mut [u8]) -> u32 {
 
 pub fn open(record: &mut [u8], frame: &[u8], out: &mut [u8]) -> u32 {
     unsafe { exported::kondrivai_open(record.as_mut_ptr(), record.len(), frame.as_ptr(), frame.len(), out.as_mut_ptr(), out.len()) }
+}
+
+/// `seal` as it is compiled beside the call beneath it.
+pub fn seal_beside(record: &mut [u8], frame: &[u8], out: &mut [u8]) -> u32 {
+    unsafe { bench_buffer_seal(record.as_mut_ptr(), record.len(), frame.as_ptr(), frame.len(), out.as_mut_ptr(), out.len()) }
+}
+
+/// `open` likewise.
+pub fn open_beside(record: &mut [u8], frame: &[u8], out: &mut [u8]) -> u32 {
+    unsafe { bench_buffer_open(record.as_mut_ptr(), record.len(), frame.as_ptr(), frame.len(), out.as_mut_ptr(), out.len()) }
 }
 
 /// A sender's buffer, if the layout has room for its number.

@@ -30,6 +30,8 @@ pub mod exported {
             key: &mut [u8; 16], key_id: &mut u8, peer: &mut [u8; 6], size: &mut u8, replay: &mut [u64; 16], seen: &mut [u16; 16],
             counts: &mut [u32; 4], answer: &mut [u64; 4], frame: *const u8, frame_len: usize, out: *mut u8, out_len: usize,
         );
+        pub fn bench_buffer_seal(record: *mut u8, record_len: usize, frame: *const u8, frame_len: usize, out: *mut u8, out_len: usize) -> u32;
+        pub fn bench_buffer_open(record: *mut u8, record_len: usize, frame: *const u8, frame_len: usize, out: *mut u8, out_len: usize) -> u32;
         pub fn bench_split(
             key: &mut [u8; 16], key_id: &mut u8, address: &mut [u8; 6], last: &mut u64, answer: &mut [u64; 4], size: usize, frame: *const u8,
             frame_len: usize, out: *mut u8, out_len: usize,

@@ -7,6 +7,7 @@ ghost use Rattle.ccm.specs.Ccm.{sealed, opened};
 ghost use Rattle.ccm.specs.Room.{fitting, outcome, written};
 ghost use Rattle.bench.specs.Numbers.{number};
 
+mod buffers; // buffers.rt: sealing and opening on a record in a buffer
 mod frames; // frames.rt: fresh records, sealing and opening
 mod pictures; // pictures.rt: splitting and joining
 mod tables; // tables.rt: sealing and opening through a table

@@ -42,6 +42,7 @@ const GREATEST: usize = 42;
 
 const SEEN: usize = 138;
 
+// Whether b holds a receiver.
 pub(crate) fn is_receiver(b: &[u8]) -> bool
     ensures { λ r. ⌜ r ≡ isReceiver (now (b .entry)) ⌝ }
 {
@@ -51,6 +52,7 @@ pub(crate) fn is_receiver(b: &[u8]) -> bool
     ccmp::receiver_fits(b[KEY_ID], b[SIZE])
 }
 
+// The counts of the receiver that b holds.
 fn get_counts(b: &[u8]) -> Counts
     requires { ⌜ length (now b) ≡ receiverSize ⌝ }
     ensures { λ c. ⌜ c ≡ countsIn (now (b .entry)) ⌝ }
@@ -67,6 +69,7 @@ fn get_counts(b: &[u8]) -> Counts
     }
 }
 
+// The receiver that b holds.
 pub(crate) fn get_receiver(b: &[u8]) -> Receiver
     requires { ⌜ length (now b) ≡ receiverSize ⌝ }
     ensures { λ r. ⌜ r ≡ receiverIn (now (b .entry)) ⌝ }
@@ -83,6 +86,7 @@ pub(crate) fn get_receiver(b: &[u8]) -> Receiver
     r
 }
 
+// Writes the counts in their places.
 fn put_counts(c: Counts, b: &mut [u8])
     requires { ⌜ length (now b) ≡ receiverSize ⌝ }
     ensures { λ _. ⌜ take 42 (now (b .exit)) ≡ take 26 (now (b .entry)) ++ countsOctets c ⌝ }
@@ -93,6 +97,7 @@ fn put_counts(c: Counts, b: &mut [u8])
     put_four(c.opened as u64, b, OPENED);
 }
 
+// Writes a receiver over the whole of b.
 pub(crate) fn put_receiver(r: Receiver, b: &mut [u8])
     requires { ⌜ length (now b) ≡ receiverSize ⌝ }
     ensures { λ _. ⌜ now (b .exit) ≡ receiverOctets r ⌝ }

@@ -25,6 +25,7 @@ const KEY: usize = 9;
 
 const LAST: usize = 25;
 
+// Whether b holds a sender.
 pub(crate) fn is_sender(b: &[u8]) -> bool
     ensures { λ r. ⌜ r ≡ isSender (now (b .entry)) ⌝ }
 {
@@ -34,6 +35,7 @@ pub(crate) fn is_sender(b: &[u8]) -> bool
     b[KEY_ID] <= MOST_KEY_ID
 }
 
+// The sender that b holds.
 pub(crate) fn get_sender(b: &[u8]) -> Sender
     requires { ⌜ length (now b) ≡ senderSize ⌝ }
     ensures { λ s. ⌜ s ≡ senderIn (now (b .entry)) ⌝ }
@@ -46,6 +48,7 @@ pub(crate) fn get_sender(b: &[u8]) -> Sender
     s
 }
 
+// Writes a sender over the whole of b.
 pub(crate) fn put_sender(s: Sender, b: &mut [u8])
     requires { ⌜ length (now b) ≡ senderSize ⌝ }
     ensures { λ _. ⌜ now (b .exit) ≡ senderOctets s ⌝ }
