@@ -79,7 +79,7 @@ enum kondrivai_answer {
  * key_id   0 to 3
  * address  the host's own, which stands in A2 of what it seals
  *
- * Answers 0, or 1 for a wrong length of record or key or a wrong key ID; then the buffer is as it was.
+ * Answers 0. Refused, with 1, for a wrong length of record or key or a wrong key ID, it leaves the buffer as it was.
  */
 uint32_t kondrivai_fresh_sender(
     uint8_t *record, size_t record_octets, const uint8_t *key, size_t key_octets, uint8_t key_id,
@@ -91,8 +91,8 @@ uint32_t kondrivai_fresh_sender(
  * peer     the address of the one that seals, which stands in A2
  * window   KONDRIVAI_SMALL_WINDOW or KONDRIVAI_LARGE_WINDOW, the receiver's for life
  *
- * Answers 0, or 1 for a wrong length of record or key, a wrong key ID or another window; then the buffer is as it was. A key that a
- * receiver had before takes frames again that it opened then.
+ * Answers 0. Refused, with 1, for a wrong length of record or key, a wrong key ID or another window, it leaves the buffer as it was. Made
+ * with a key that a receiver had before, it opens frames again that were opened then.
  */
 uint32_t kondrivai_fresh_receiver(
     uint8_t *record, size_t record_octets, const uint8_t *key, size_t key_octets, uint8_t key_id,
@@ -103,7 +103,7 @@ uint32_t kondrivai_fresh_receiver(
  * `out`, under the sender's next packet number: the header with Protected set, the CCMP header, the body encrypted, the integrity code. The
  * rest of `out` is kept.
  *
- * Answers 0, or 1 to 7 or 12; then neither `out` nor `record` has changed. It never uses a number twice.
+ * Answers 0. Refused, with 1 to 7 or 12, it leaves `out` and `record` as they were. It never uses a number twice.
  */
 uint32_t kondrivai_seal(
     uint8_t *record, size_t record_octets, const uint8_t *frame, size_t frame_octets, uint8_t *out, size_t out_octets);
@@ -112,8 +112,8 @@ uint32_t kondrivai_seal(
  * Opens the sealed frame into the first frame_octets - KONDRIVAI_ADDED_OCTETS octets of `out`: the header as it came, with Protected
  * clear, and the body. The rest of `out` is kept. Not all of a header is protected by the code: docs/C-HOST.md says what is not.
  *
- * Answers 0, or 1 to 11; then `out` has not changed, and of `record` at most one count: 2 to 5 and 7 to 9 are format errors, 10 a replay,
- * 11 a decrypt error, 1 and 6 are not counted. It never writes a body whose integrity code is wrong, and never opens a frame twice.
+ * Answers 0. Refused, with 1 to 11, it leaves `out` as it was, and `record` but for one count: 2 to 5 and 7 to 9 are format errors, 10 is a
+ * replay, 11 a decrypt error, and 1 and 6 are not counted. It never writes a body whose integrity code is wrong, and never opens a frame twice.
  */
 uint32_t kondrivai_open(
     uint8_t *record, size_t record_octets, const uint8_t *frame, size_t frame_octets, uint8_t *out, size_t out_octets);

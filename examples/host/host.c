@@ -68,6 +68,10 @@ static const char *name_of(uint32_t answer) {
         return "done";
     case KONDRIVAI_RECORD:
         return "no record";
+    case KONDRIVAI_BODY:
+        return "too long a body";
+    case KONDRIVAI_ROOM:
+        return "too little room";
     case KONDRIVAI_REPLAY:
         return "replay";
     case KONDRIVAI_INTEGRITY:
@@ -77,12 +81,26 @@ static const char *name_of(uint32_t answer) {
     }
 }
 
+/* With the body of what was opened, if there is one. */
 static void print_answer(const char *what, uint32_t answer, const uint8_t *plain) {
     printf("%-22s %2u %s", what, (unsigned)answer, name_of(answer));
-    if (answer == KONDRIVAI_DONE) {
+    if (answer == KONDRIVAI_DONE && plain != NULL) {
         printf(": %.*s", BODY, (const char *)plain + HEADER);
     }
     putchar('\n');
+}
+
+/* The longest frame that there is, with A4, QoS Control and HT Control, and one octet more. */
+static void print_longest(uint8_t sender[KONDRIVAI_SENDER_OCTETS]) {
+    static uint8_t frame[KONDRIVAI_MOST_PLAIN + 1];
+    static uint8_t sealed[KONDRIVAI_MOST_SEALED];
+    const size_t octets = KONDRIVAI_MOST_PLAIN;
+    make_frame(frame, FRAMES);
+    frame[0] = 0x88;
+    frame[1] = 0x83;
+    print_answer("the longest, no room", kondrivai_seal(sender, KONDRIVAI_SENDER_OCTETS, frame, octets, sealed, sizeof sealed - 1), NULL);
+    print_answer("the longest", kondrivai_seal(sender, KONDRIVAI_SENDER_OCTETS, frame, octets, sealed, sizeof sealed), NULL);
+    print_answer("a longer one", kondrivai_seal(sender, KONDRIVAI_SENDER_OCTETS, frame, octets + 1, sealed, sizeof sealed), NULL);
 }
 
 int main(void) {
@@ -134,5 +152,6 @@ int main(void) {
     print_answer("another layout", kondrivai_open(receiver, sizeof receiver, air[2], SEALED, plain, sizeof plain), plain);
     receiver[1] = 1;
     print_answer("the third, found", kondrivai_open(receiver, sizeof receiver, air[2], SEALED, plain, sizeof plain), plain);
+    print_longest(sender);
     return 0;
 }
