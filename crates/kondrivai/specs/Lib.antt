@@ -5,3 +5,4 @@ pub mod Layout1
 pub mod Exports
 pub mod Undone
 pub mod Hosts
+pub mod Examples

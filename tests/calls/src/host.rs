@@ -143,8 +143,32 @@ fn other_octets(buffer: &[u8], call: impl Fn(&[u8]) -> Hosted, due: impl Fn(&[u8
     (calls, meaningless)
 }
 
+/// The example of docs/LAYOUT.md, written and read.
+fn example() {
+    let (key, address, number) = (std::array::from_fn(|i| 0x40 + i as u8), [2, 0, 0, 0, 0, 1], 0x0102_0304_0506);
+    let sender = Sender { key, key_id: 2, address, last_number: number };
+    let mut due = vec![0x53, 1, 2, 2, 0, 0, 0, 0, 1];
+    due.extend(0x40..0x50);
+    due.extend([6, 5, 4, 3, 2, 1]);
+    assert_eq!(host::sender_buffer(&sender).as_ref(), Some(&due));
+    assert_eq!(host::sender_in(&due), Some(sender));
+
+    let (mut replay, mut seen) = ([0; 16], [0; 16]);
+    (replay[6], seen[6]) = (number, 0x8003);
+    let receiver = proved::Record { key, key_id: 2, peer: address, size: 16, replay, seen, counts: [1, 2, 3, 0x104] };
+    let mut due = vec![0; RECEIVER_OCTETS];
+    due[..10].copy_from_slice(&[0x52, 1, 2, 16, 2, 0, 0, 0, 0, 1]);
+    due[10..26].copy_from_slice(&key);
+    (due[26], due[30], due[34], due[38], due[39]) = (1, 2, 3, 4, 1);
+    due[78..84].copy_from_slice(&[6, 5, 4, 3, 2, 1]);
+    due[150..152].copy_from_slice(&[3, 0x80]);
+    assert_eq!(host::receiver_buffer(&receiver).as_ref(), Some(&due));
+    assert_eq!(host::receiver_in(&due).and_then(|receiver| host::receiver_buffer(&receiver)), Some(due));
+}
+
 /// Buffers that differ from a good one in their length or in one octet. Gives the calls made.
 pub fn buffers(seed: u64) -> usize {
+    example();
     let mut random = Random(seed);
     let (key, address) = (random.array(), random.array());
     let mut sender = Sender::fresh(key, 2, address).1;
