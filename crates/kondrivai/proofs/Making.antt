@@ -1,5 +1,5 @@
 -- A record made in a buffer: the answer, and the buffer, which is written where that is 0.
-use mathlib.Core.Path.{_≡_}
+use mathlib.Core.Path.{_≡_, ap, _∙_}
 use mathlib.Core.Bool.{true, cond}
 use mathlib.Core.List.{List}
 use Prim.Native.Nat.{ℕ}
@@ -17,9 +17,6 @@ use Rattle.kondrivai.specs.Exports.{canHold}
 pub kept : (n m : ℕ) (x b : List ℕ) → n ≡ m → (n ≡ 0 → ⊥) → b ≡ cond (eqb m 0) x b
 kept n m x b e h = rw (← e, ne-eqb n 0 h)
 
-pub made : (n m : ℕ) (x b : List ℕ) → n ≡ m → n ≡ 0 → x ≡ cond (eqb m 0) x b
-made n m x b e h = rw (← e, eq-eqb n 0 h)
-
 -- what can hold a record has its length, and the key its own
 module _ (size : ℕ) (b key : List ℕ) (can : canHold size b key ≡ true) where
   pub buffer-size : length b ≡ size
@@ -28,5 +25,8 @@ module _ (size : ℕ) (b key : List ℕ) (can : canHold size b key ≡ true) whe
   pub key-size : length key ≡ keyOctets
   key-size = eqb-true (length key) keyOctets (both (eqb (length b) size) (eqb (length key) keyOctets) can .1)
 
-  pub key-whole : part key 0 keyOctets ≡ key
-  key-whole = take-all keyOctets key (omega (arith, key-size))
+  -- a record made of the key as it was read, and written
+  pub made : {R : Type 0} (octets : R → List ℕ) (fresh : List ℕ → R) (n m : ℕ) {k w : List ℕ} {r : R} → n ≡ m → n ≡ 0
+      → k ≡ part key 0 keyOctets → r ≡ fresh k → w ≡ octets r → (n ≡ m) × (w ≡ cond (eqb m 0) (octets (fresh key)) b)
+  made octets fresh n m e zero read is put =
+      (e, put ∙ ap octets (is ∙ ap fresh (read ∙ take-all keyOctets key (omega (arith, key-size)))) ∙ rw (← e, eq-eqb n 0 zero))
