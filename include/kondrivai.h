@@ -32,8 +32,8 @@ extern "C" {
 
 /* What sealing adds to a frame, and the octets of the longest frames. */
 #define KONDRIVAI_ADDED_OCTETS 16
-#define KONDRIVAI_MOST_PLAIN 2332
-#define KONDRIVAI_MOST_SEALED 2348
+#define KONDRIVAI_MOST_PLAIN 7971
+#define KONDRIVAI_MOST_SEALED 7987
 
 /*
  * The sizes of a receiver's replay windows. Each priority has one, and what has no QoS Control is of priority 0. Small: a frame's packet number
@@ -62,7 +62,7 @@ enum kondrivai_answer {
     KONDRIVAI_SHORT = 2,      /* the frame has fewer than 24 octets, or fewer than its header */
     KONDRIVAI_KIND = 3,       /* the version is not 0, the type is not data, or the subtype has no data (0x40 in the first octet) */
     KONDRIVAI_PROTECTED = 4,  /* Protected is set in a frame to seal, or clear in one to open */
-    KONDRIVAI_BODY = 5,       /* the octets after the header are not 1 to 2,296 in a frame to seal, 17 to 2,312 in one to open */
+    KONDRIVAI_BODY = 5,       /* the octets after the header are not 1 to 7,935 in a frame to seal, 17 to 7,951 in one to open */
     KONDRIVAI_ROOM = 6,       /* the output is too small */
     KONDRIVAI_ADDRESS = 7,    /* A2 is not the record's address */
     KONDRIVAI_EXTENDED = 8,   /* opening: ExtIV is clear */

@@ -6,7 +6,7 @@ use crate::window::{Window, SIZES};
 /// The greatest packet number.
 pub const MAX_NUMBER: u64 = (1 << 48) - 1;
 /// The greatest body of a plain frame.
-pub const MAX_BODY: usize = 2_296;
+pub const MAX_BODY: usize = 7_935;
 /// The greatest header: A4, QoS Control and HT Control.
 pub const MAX_HEADER: usize = 36;
 
@@ -385,10 +385,10 @@ mod tests {
     #[test]
     fn body_limits() {
         for control in CONTROLS {
-            for (body, refusal) in [(0, Some(Refusal::Body)), (1, None), (2_295, None), (2_296, None), (2_297, Some(Refusal::Body))] {
+            for (body, refusal) in [(0, Some(Refusal::Body)), (1, None), (7_934, None), (7_935, None), (7_936, Some(Refusal::Body))] {
                 assert_eq!(sender().seal(&plain(control, body), &mut [0; ROOM]).err(), refusal);
             }
-            for (rest, refusal) in [(16, Refusal::Body), (17, Refusal::Extended), (2_312, Refusal::Extended), (2_313, Refusal::Body)] {
+            for (rest, refusal) in [(16, Refusal::Body), (17, Refusal::Extended), (7_951, Refusal::Extended), (7_952, Refusal::Body)] {
                 let frame = plain([control[0], control[1] | PROTECTED], rest);
                 assert_eq!(receiver().open(&frame, &mut [0; ROOM]), Err(refusal));
             }
@@ -411,7 +411,7 @@ mod tests {
     #[test]
     fn greatest_sealed_frame() {
         let lengths = CONTROLS.map(|control| sealed(&mut sender(), &plain(control, MAX_BODY)).len());
-        assert_eq!(lengths, [2_336, 2_338, 2_342, 2_344, 2_342, 2_348]);
+        assert_eq!(lengths, [7_975, 7_977, 7_981, 7_983, 7_981, 7_987]);
     }
 
     #[test]
@@ -448,7 +448,7 @@ mod tests {
             receiver.open(&frame, &mut [0; ROOM])
         };
         for control in [[0x88, 0x00], [0x88, 0x03], [0x88, 0x80], [0x88, 0x83]] {
-            let limit = if has_ht(&control) { 2_293 } else { 4 };
+            let limit = if has_ht(&control) { MAX_BODY - 3 } else { 4 };
             assert_eq!(answer(control, limit, 0xa0, 0), Err(Refusal::Body));
             assert_eq!(answer(control, 5, 0x80, 0), Err(Refusal::Extended));
             assert_eq!(answer(control, 5, 0xe0, 0), Err(Refusal::KeyId));

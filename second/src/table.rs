@@ -630,14 +630,14 @@ mod tests {
         for control in CONTROLS {
             let header = header_length(&control);
             let mut frame = plain(control, camera(5), BOX);
-            for (body, refusal) in [(0, Some(Refusal::Body)), (1, None), (2_296, None), (2_297, Some(Refusal::Body))] {
+            for (body, refusal) in [(0, Some(Refusal::Body)), (1, None), (7_935, None), (7_936, Some(Refusal::Body))] {
                 frame.resize(header + body, 0);
                 assert_eq!(table.seal(1, &frame, &mut [0; ROOM]).err(), refusal);
             }
             let mut frame = plain([control[0], control[1] | PROTECTED], BOX, camera(5));
             frame.resize(header, 0);
             frame.extend([0, 0, 0, EXT_IV | 1 << 6]);
-            for (rest, refusal) in [(16, Refusal::Body), (17, Refusal::Replay), (2_312, Refusal::Replay), (2_313, Refusal::Body)] {
+            for (rest, refusal) in [(16, Refusal::Body), (17, Refusal::Replay), (7_951, Refusal::Replay), (7_952, Refusal::Body)] {
                 frame.resize(header + rest, 0);
                 assert_eq!(table.open(&frame, &mut [0; ROOM]), Err(refusal));
             }

@@ -276,25 +276,33 @@ fn sizes(low: u8, high: u8, h: usize)
     open_size(most, h, MOST_BODY + ADDED + 1, frame, 5);
 }
 
+// The first n octets of the frame sealed with this room.
+fn seal_in(frame: [u8; SIZE], n: usize, room: usize, expected: u64)
+    requires { ⌜ (n ≤ mostHeader + mostBody) × (room ≤ size) ⌝ }
+{
+    show::text(b"seal to ");
+    show::number((n + ADDED) as u64);
+    show::text(b" octets, room ");
+    show::number(room as u64);
+    show::text(b": ");
+    seals(sender(0), frame, n, room, expected);
+}
+
 // Room for one octet too few, and for just enough.
 fn rooms() {
     let frame = plain(0x08, 0x00);
     let text = text_of(frame, 25, 0);
-    let s = sender(0);
     let r = receiver(0, 0);
-    show::text(b"seal to 41 octets, room 40: ");
-    seals(s, frame, 25, 40, 6);
-    show::text(b"seal to 41 octets, room 41: ");
-    seals(s, frame, 25, 41, 0);
+    seal_in(frame, 25, 40, 6);
+    seal_in(frame, 25, 41, 0);
     show::text(b"open to 25 octets, room 24: ");
     opens(r, text, 41, 24, frame, 6);
     show::text(b"open to 25 octets, room 25: ");
     opens(r, text, 41, 25, frame, 0);
     let longest = plain(0x88, 0x83);
-    show::text(b"seal to 2348 octets, room 2347: ");
-    seals(s, longest, 2332, 2347, 6);
-    show::text(b"seal to 2348 octets, room 2348: ");
-    seals(s, longest, 2332, 2348, 0);
+    let n = 36 + MOST_BODY;
+    seal_in(longest, n, n + ADDED - 1, 6);
+    seal_in(longest, n, n + ADDED, 0);
 }
 
 // Frames with HT Control, which is counted and not authenticated.

@@ -5,6 +5,7 @@
 // replay counters, counts, size and the bits of the windows, and then its format count. A request is a table, the call's letter (n, a, r, s
 // or o), the pairing's own address, peer, key ID, key, flags and size, the lengths of frame and room, and these two; an answer is four
 // numbers, the table and the room.
+use ccmp::MOST_BODY;
 use libc::STDIN_FILENO;
 use libc::STDOUT_FILENO;
 use rules::ADDRESS_OCTETS;
@@ -30,7 +31,7 @@ const TABLE: usize = ENTRIES * ENTRY + 4;
 const REQUEST: usize = TABLE + 41;
 
 // The most octets of a frame or a room.
-const SPACE: usize = 8192;
+const SPACE: usize = MOST_BODY + 4096;
 
 fn octets_6(b: &[u8], i: usize) -> [u8; ADDRESS_OCTETS]
     requires { ⌜ i + 6 ≤ length (now b) ⌝ }

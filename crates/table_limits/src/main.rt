@@ -1,6 +1,8 @@
 // The limit cases of the table of cameras: each answer of its calls, the order of the tests, places, restarts, flags, counts, and
 // what makes a table unsound.
 // What this must print, the file stdout, was taken from documents 01 and 02; ` | 02: ` is the answer that they give, 0 for done.
+use ccmp::ADDED;
+use ccmp::MOST_BODY;
 use ccmp::MOST_NUMBER;
 use ccmp::SMALL_WINDOW;
 use line::adds;
@@ -252,20 +254,27 @@ fn open_found(t: Table, text: [u8; SIZE]) -> Table {
     opens_from(t, 1, 1, 1, 0)
 }
 
+fn print_body(word: &[u8], n: usize) {
+    show::text(word);
+    show::number(n as u64);
+    show::text(b" octets after the header: ");
+}
+
 // Bodies at their limits. Those that pass are then found to have too little room.
 fn bodies() {
-    let mut frame = [0u8; 2337];
+    let mut frame = [0u8; 24 + MOST_BODY + ADDED + 1];
     frame[0] = 0x08;
     let t = cameras(1);
-    show::text(b"Bodies, with room 48\nseal 2296 octets after the header: ");
-    let t = seals_lent(t, 2, &frame[0..2320], SIZE, 6);
-    show::text(b"seal 2297 octets after the header: ");
-    let t = seals_lent(t, 2, &frame[0..2321], SIZE, 5);
+    show::text(b"Bodies, with room 48\n");
+    print_body(b"seal ", MOST_BODY);
+    let t = seals_lent(t, 2, &frame[0..24 + MOST_BODY], SIZE, 6);
+    print_body(b"seal ", MOST_BODY + 1);
+    let t = seals_lent(t, 2, &frame[0..24 + MOST_BODY + 1], SIZE, 5);
     frame[1] = 0x40;
-    show::text(b"open 2312 octets after the header: ");
-    let t = opens_lent(t, &frame[0..2336], SIZE, 6);
-    show::text(b"open 2313 octets after the header: ");
-    opens_lent(t, &frame[0..2337], SIZE, 5);
+    print_body(b"open ", MOST_BODY + ADDED);
+    let t = opens_lent(t, &frame[0..24 + MOST_BODY + ADDED], SIZE, 6);
+    print_body(b"open ", MOST_BODY + ADDED + 1);
+    opens_lent(t, &frame, SIZE, 5);
 }
 
 // Where two tests apply, the first decides.

@@ -1,6 +1,6 @@
 //! Rooms, numbers and records of any kind, at the limits of their ranges and beyond.
 
-use second::frame::{header_length, qos_place, Receiver, Sender, ADDED, MAX_NUMBER};
+use second::frame::{header_length, qos_place, Receiver, Sender, ADDED, MAX_BODY, MAX_HEADER, MAX_NUMBER};
 use second::sample::{set_number, Random};
 use second::window::{Window, SIZES};
 
@@ -34,7 +34,7 @@ pub fn resize(random: &mut Random, frame: &mut Vec<u8>, lengths: &[usize]) {
 /// One frame in 32 becomes any octets.
 pub fn octets(random: &mut Random, frame: &mut Vec<u8>) {
     if random.one_in(32) {
-        *frame = random.octets_below(2_400);
+        *frame = random.octets_below(MAX_HEADER + MAX_BODY + 2 * ADDED);
     }
 }
 

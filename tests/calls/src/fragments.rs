@@ -5,7 +5,7 @@
 use crate::any;
 use crate::call::{Call, Calls, Left, Record};
 use second::fragment::{Joiner, MAX_FRAGMENTS, MAX_MESSAGE, MAX_SIZE, MIN_SIZE, MORE_FRAG};
-use second::frame::{header_length, Receiver, Sender, ADDED, MAX_NUMBER};
+use second::frame::{header_length, Receiver, Sender, ADDED, MAX_BODY, MAX_NUMBER};
 use second::sample::Random;
 use second::window::SIZES;
 use std::collections::VecDeque;
@@ -213,7 +213,7 @@ impl Fragments {
     }
 
     fn damage(&mut self, frame: &mut Vec<u8>) {
-        any::resize(&mut self.random, frame, &[0, 1, MAX_SIZE, MAX_SIZE + 1]);
+        any::resize(&mut self.random, frame, &[0, 1, MAX_SIZE, MAX_SIZE + 1, MAX_BODY]);
         self.random.spoil(frame);
         while frame.len() >= 24 && self.random.one_in(3) {
             self.random.spoil(frame);
