@@ -20,6 +20,7 @@ lines = int(sys.argv[1]) if len(sys.argv) > 1 else 20_000
 first_seed = int(sys.argv[2]) if len(sys.argv) > 2 else 1
 framebook = pathlib.Path(os.environ.get("FRAMEBOOK", root / "target/bin/framebook")).resolve()
 release = root / "second/target/release"
+LONGEST = 16_000  # the octets of a line, without its line feed
 BAD_FIRST = 16  # a seed of 15 modulo this has a bad line 1
 
 # The answers that a book can show.
@@ -68,7 +69,7 @@ TEXTS = [
     ("line 1 alone", KEY, b""),
     ("line 1 alone without its line feed", KEY[:-1], b""),
     ("half of line 1", KEY[:30], b"1\tbad\n"),
-    ("line 1 over-long, with a good one as its tail", digits(4_801) + KEY + b"seal\t\n", b"1\tbad\n"),
+    ("line 1 over-long, with a good one as its tail", digits(LONGEST + 1) + KEY + b"seal\t\n", b"1\tbad\n"),
     *[
         (f"line 1 with {name}", line + b"seal\t\n", b"1\tbad\n")
         for name, line in [
@@ -95,10 +96,13 @@ TEXTS = [
     ("no line feed at the end", KEY + b"seal\t\nseal\t", b"2\tseal\t2\t-\n3\tseal\t2\t-\n"),
     ("a bad last line without a line feed", KEY + b"seal", b"2\tbad\n"),
     ("empty lines", KEY + b"\n\nseal\t\n\n", b"2\tbad\n3\tbad\n4\tseal\t2\t-\n5\tbad\n"),
-    ("4,799 octets", KEY + digits(4_799) + b"\nseal\t\n", b"2\tseal\t5\t-\n3\tseal\t2\t-\n"),
+    *[
+        (f"{length} octets", KEY + digits(length) + b"\nseal\t\n", b"2\tseal\t5\t-\n3\tseal\t2\t-\n")
+        for length in (LONGEST - 3, LONGEST - 1)
+    ],
     *[
         (f"{length} octets, {name}", KEY + digits(length) + tail, written)
-        for length in (4_800, 4_801, 4_802, 9_999, 65_535, 65_536, 65_537, 1_000_001)
+        for length in (LONGEST, LONGEST + 1, LONGEST + 2, 2 * LONGEST - 1, 65_535, 65_536, 65_537, 1_000_001)
         for name, tail, written in [
             ("then a good line", b"\nseal\t\n", b"2\tbad\n3\tseal\t2\t-\n"),
             ("a good line as its tail", b"seal\t" + PLAIN + b"\nseal\t\n", b"2\tbad\n3\tseal\t2\t-\n"),
@@ -118,6 +122,11 @@ TEXTS = [
             *[b"seal\t08%copen\t08" % c for c in b"\0\r\v\f\x1a\x1c\x1e\x85\xa0"],
             *["seal\t08\u2028open\t08".encode(), "\ufeffseal\t08".encode()],
         ]
+    ],
+    *[
+        (f"{word} with {more} octets after the header", KEY + word + b"\t" + control + b"00" * (22 + more), b"2\t%s\t%d\t-\n" % (word, answer))
+        for word, control, least, most in ((b"seal", b"0800", 1, 7_935), (b"open", b"0840", 17, 7_951))
+        for more, answer in ((least - 1, 5), (least, 7), (most, 7), (most + 1, 5))
     ],
     (
         "a bad line moves no number, and the peer is not the own address",
@@ -182,7 +191,7 @@ def compare(where, **outputs):
 def cut(book, source):
     at = 0
     while at < len(book):
-        size = source.choice((source.randint(1, 9), source.randint(1, 300), source.randint(1, 9_000)))
+        size = source.choice((source.randint(1, 9), source.randint(1, 300), source.randint(1, 2 * LONGEST)))
         yield book[at : at + size]
         at += size
 

@@ -4,7 +4,7 @@ use crate::frame::{Answer, Receiver, Sender, ADDED};
 use std::io::{self, BufRead, BufReader, Read, Write};
 
 /// The most octets of a line, without its line feed.
-const LONGEST: usize = 4_800;
+pub const LONGEST: usize = 16_000;
 /// The most octets of a frame, which follows a word of four octets and a tab, and what sealing adds.
 const ROOM: usize = (LONGEST - 5) / 2 + ADDED;
 /// Of the receiver's windows.
@@ -199,8 +199,8 @@ mod tests {
     #[test]
     fn long_lines() {
         let line = |length: usize, tail: &str| format!("seal\t{}{tail}", "0".repeat(length - 5));
-        assert_eq!(later(line(4_799, "\n")), "2\tseal\t3\t-\n");
-        for length in [4_800, 4_801, 4_802, 200_000] {
+        assert_eq!(later(line(15_999, "\n")), "2\tseal\t3\t-\n");
+        for length in [16_000, 16_001, 16_002, 200_000] {
             assert_eq!(later(line(length, "\nseal\t")), "2\tbad\n3\tseal\t2\t-\n");
             assert_eq!(later(line(length, "open\t\n\n")), "2\tbad\n3\tbad\n");
             assert_eq!(later(line(length, "")), "2\tbad\n");

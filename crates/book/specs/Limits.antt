@@ -4,7 +4,7 @@ use Rattle.rules.specs.Mode.{added}
 
 -- the octets of a line without its line feed
 abbrev pub mostLine : ℕ
-mostLine = 4800
+mostLine = 16000
 
 -- what is kept of a line that has not ended: one octet more, so that a line that is too long shows
 abbrev pub mostKept : ℕ

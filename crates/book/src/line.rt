@@ -18,7 +18,7 @@ ghost use Rattle.book.specs.Handed.{requestIn, frameIn, KeyTabs, Given};
 const TAB: u8 = 9;
 
 // The octets of a line without its line feed.
-pub(crate) const MOST_LINE: usize = 4800;
+pub(crate) const MOST_LINE: usize = 16000;
 
 // The fields of a good line 1, each after a tab: `key`, key, key ID, own address, peer address.
 const WORD_END: usize = 3;

@@ -4,6 +4,7 @@
 //!   generate SEED LINES        a SEED of 15 modulo 16 gives a bad line 1
 #![forbid(unsafe_code)]
 
+use second::book::LONGEST;
 use second::frame::{qos_place, Sender, ADDED, MAX_BODY, MAX_HEADER, MAX_NUMBER, PROTECTED};
 use second::sample::{Random, SHORTEST_SEALED};
 use std::collections::VecDeque;
@@ -75,7 +76,7 @@ impl Generator {
             11 => fields.insert(field, Vec::new()),
             12 => fields[4].push(b'\r'),
             13 => fields[0].insert(0, b' '),
-            14 => fields[4].extend(vec![b'0'; 4_790]),
+            14 => fields[4].extend(vec![b'0'; LONGEST]),
             _ => fields.clear(),
         }
         fields.join(&b'\t')
@@ -167,9 +168,9 @@ impl Generator {
         line(b"open", &frame)
     }
 
-    /// A line near the greatest length or far over it. It may be well formed but for that, or its tail after octet 4,800 or 4,801 may be.
+    /// A line near the greatest length or far over it. It may be well formed but for that, or its tail after `LONGEST` octets or one more may be.
     fn long_line(&mut self) -> Vec<u8> {
-        let length = self.random.pick(&[4_799, 4_799, 4_799, 4_800, 4_801, 4_801, 4_801, 4_802, 4_803, 10_000, 10_001, 70_000]);
+        let length = LONGEST - 1 + self.random.pick(&[0, 0, 0, 1, 2, 2, 2, 3, 4, 10_000, 10_001, 70_000]);
         let mut frame = self.random.plain(self.own);
         frame.resize(length / 2, 0xa5);
         let mut long = line(b"seal", &frame);
@@ -180,7 +181,7 @@ impl Generator {
         }
         long.truncate(length);
         if self.random.one_in(3) {
-            long.resize(self.random.pick(&[4_800, 4_801]), b'0');
+            long.resize(self.random.pick(&[LONGEST, LONGEST + 1]), b'0');
             let frame = self.random.plain(self.own);
             long.extend(line(b"seal", &frame));
         }
