@@ -1,8 +1,8 @@
 #!/usr/bin/env python3
 """Gives frames that the proved code sealed to Wireshark's `tshark`, which gets the temporal key and nothing else, and compares the bodies it
-shows with the plain ones. Every header shape, key ID and priority occurs, b15 without QoS Control, and packet numbers from 1 on and, in the
-last eight frames, above 2^32. Each frame is given again with one bit of its addresses, body or code turned over: of that one tshark may show
-no body.
+shows with the plain ones. Every header shape, key ID and priority occurs, b15 without QoS Control, one body in seven is the longest, and
+packet numbers are from 1 on and, in the last eight frames, above 2^32. Each frame is given again with one bit of its addresses, body or code
+turned over: of that one tshark may show no body.
 
   tests/tshark.py [FRAMES [SEED]]        1,024 frames and seed 1 where none is given; needs tshark (Debian's package tshark, 4.0.17)
 """
@@ -20,6 +20,7 @@ import proved
 
 RAW_80211 = 105
 SNAP = bytes.fromhex("aaaa0300000088b5")
+MOST_BODY = 7_935
 frames = int(sys.argv[1]) if len(sys.argv) > 1 else 1_024
 seed = int(sys.argv[2]) if len(sys.argv) > 2 else 1
 exported = proved.library()
@@ -72,7 +73,8 @@ def decrypted(packets, key):
 key, address = source.randbytes(16), b"\x02" + source.randbytes(5)
 bodies, sealed, damaged = [], [], []
 for case in range(frames):
-    front, body = header(case, address), SNAP + source.randbytes(case % 193)
+    front, length = header(case, address), MOST_BODY if case % 7 == 6 else len(SNAP) + case % 193
+    body = SNAP + source.randbytes(length - len(SNAP))
     last = case if case < frames - 8 else 0xA5B4_C3D2_0000 + case
     bodies.append(body)
     sealed.append(seal(key, case // 8 % 4, address, last, front + body))
