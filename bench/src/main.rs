@@ -3,7 +3,7 @@
 use second::aes::Aes128;
 use second::ccm::Ccm;
 use second::fragment::{Joiner, MAX_FRAGMENTS, MAX_MESSAGE};
-use second::frame::{Receiver, Sender, ADDED};
+use second::frame::{Receiver, Sender, ADDED, MAX_BODY};
 use second::window::{Window, SIZES};
 use std::hint::black_box;
 use std::time::Instant;
@@ -213,7 +213,7 @@ fn fragments() {
 fn main() {
     println!("{:<36} {:>12} {:>12} {:>6}", "work", "proved", "second", "ratio");
     aes();
-    [64, 1_500, 2_296].into_iter().for_each(ccm);
-    [64, 1_500, 2_296].into_iter().for_each(frame);
+    [64, 1_500, MAX_BODY].into_iter().for_each(ccm);
+    [64, 1_500, MAX_BODY].into_iter().for_each(frame);
     fragments();
 }
