@@ -213,7 +213,10 @@ impl Fragments {
     }
 
     fn damage(&mut self, frame: &mut Vec<u8>) {
-        any::resize(&mut self.random, frame, &[0, 1, MAX_SIZE, MAX_SIZE + 1, MAX_BODY]);
+        if self.random.one_in(4) {
+            let length = self.random.pick(&[0, 1, MAX_SIZE, MAX_SIZE, MAX_SIZE + 1, MAX_BODY]);
+            return frame.resize(header_length(frame) + length, 0x5a);
+        }
         self.random.spoil(frame);
         while frame.len() >= 24 && self.random.one_in(3) {
             self.random.spoil(frame);

@@ -58,6 +58,12 @@ pub const DUE: &[(&str, &[u64])] = &[
     ("open, header with HT Control", &[30, 36]),
     ("split, header with HT Control", &[30, 36]),
     ("join, header with HT Control", &[30, 36]),
+    ("seal, octets after the header, taken", &[1, 7_935]),
+    ("open, octets after the header, taken", &[17, 7_951]),
+    ("join, octets after the header, taken", &[1, 2_296]),
+    ("seal, octets after the header, answer 5", &[0, 7_936]),
+    ("open, octets after the header, answer 5", &[16, 7_952]),
+    ("join, octets after the header, answer 5", &[0, 2_297, 7_935]),
     ("open, answer to b15 turned over", &[5, 8, 9, 10, 11]),
     // By no other fault.
     ("open, answer 1 by", RECEIVER_FAULTS),
@@ -108,6 +114,10 @@ pub const DUE: &[(&str, &[u64])] = &[
     ("table open, header without HT Control", &[24, 26, 30, 32]),
     ("table seal, header with HT Control", &[30, 36]),
     ("table open, header with HT Control", &[30, 36]),
+    ("table seal, octets after the header, taken", &[1, 7_935]),
+    ("table open, octets after the header, taken", &[17, 7_951]),
+    ("table seal, octets after the header, answer 5", &[0, 7_936]),
+    ("table open, octets after the header, answer 5", &[16, 7_952]),
     ("table seal, done at place", PLACES),
     ("table open, done at place", PLACES),
     ("table remove, done at place", PLACES),
@@ -207,10 +217,15 @@ impl Seen {
     }
 
     fn done(&mut self, call: &Call, frame: &[u8], left: &Left) {
+        let after_header = format!("{}, octets after the header", call.name());
         if left.told[0] == 0 {
             self.add(format!("{}, priority", call.name()), left.told[2]);
             let ht = if has_ht(frame) { "with" } else { "without" };
             self.add(format!("{}, header {ht} HT Control", call.name()), header_length(frame) as u64);
+            self.add(format!("{after_header}, taken"), body(frame) as u64);
+        }
+        if left.told[0] == 5 {
+            self.add(format!("{after_header}, answer 5"), body(frame) as u64);
         }
     }
 
