@@ -39,7 +39,7 @@ def plain_frame():
 
 def arrivals():
     """What the radio makes of a frame: whole or damaged, each time that it comes, and the answer due."""
-    return source.choice([[]] + [[(True, 0), (True, 10)]] + [[(False, 11), (True, 0)]] + 17 * [[(True, 0)]])
+    return source.choice([[], [(True, 0), (True, 10)], [(False, 11), (True, 0)]] + 17 * [[(True, 0)]])
 
 
 def write_air(sealed, plain, book, due):
