@@ -8,7 +8,7 @@ use native.Mathlib.Omega.{arith}
 use lib.ListN.{length, take, drop, length-drop, length-append}
 use lib.Seq.{take-all, take-take, length-take-le, take-add}
 use Rattle.octets.proofs.Orders.{le-or-lt}
-use Rattle.bytes.specs.Bytes.{slice, indexOf}
+use Rattle.bytes.specs.Bytes.{indexOf}
 use Rattle.book.specs.Limits.{mostKept, mostAnswer}
 use Rattle.book.specs.declared.Book.{Book}
 use Rattle.book.specs.Put.{put}
@@ -16,7 +16,7 @@ use Rattle.book.specs.Text.{lineFeed, parts}
 use Rattle.book.specs.Book.{bookSays, bookNext}
 use Rattle.book.specs.Pieces.{says, after, cut, ended, left, Gave, Enough}
 use Rattle.book.proofs.Held.{cut-append, same-says, same-next}
-use Rattle.book.proofs.Parts.{whole-slice, parts-none, parts-ended}
+use Rattle.book.proofs.Parts.{parts-none, parts-ended}
 use Rattle.book.proofs.Puts.{put-put, put-within}
 use Rattle.book.proofs.Whole.{says-append, after-append, ended-append, left-append, before-any}
 use Rattle.book.proofs.Answered.{put-nothing}
@@ -64,13 +64,10 @@ module _ (b : Book) (p piece out : List ℕ) where
     s = drop at piece
 
     -- the search for a line feed from `at` on, and what is then kept of the line
-    module _ (end : ℕ) (found : end ≡ at + indexOf lineFeed (slice at (length piece) piece)) (line₂ : List ℕ) (h₂ : ℕ) (z₂ : length line₂ ≡ mostKept)
+    module _ (end : ℕ) (place : end ≡ at + indexOf lineFeed (drop at piece)) (line₂ : List ℕ) (h₂ : ℕ) (z₂ : length line₂ ≡ mostKept)
         (kept : take h₂ line₂ ≡ cut (take h line ++ take (end - at) (drop at piece))) where
       abbrev n : ℕ
       n = indexOf lineFeed s
-
-      place : end ≡ at + n
-      place = found ∙ ap (λ (x : List ℕ). at + indexOf lineFeed x) (whole-slice piece at)
 
       kept-is : take h₂ line₂ ≡ cut (l ++ take n s)
       kept-is =

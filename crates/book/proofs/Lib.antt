@@ -9,5 +9,6 @@ mod KeyLine
 mod Lines
 mod Parts
 mod Puts
+mod Searches
 mod Turns
 pub mod Whole

@@ -4,6 +4,7 @@ use rules::Receiver;
 use rules::Sender;
 
 mod put; // put.rt: text into a room
+mod scan; // scan.rt: the search for an octet
 mod hex; // hex.rt: hexadecimal
 mod decimal; // decimal.rt: a number in decimal digits
 mod line; // line.rt: the forms of a line

@@ -13,6 +13,7 @@ use crate::line::MOST_LINE;
 use crate::line::Request;
 use crate::line::request_of;
 use crate::put::put_text;
+use crate::scan::find;
 use rules::ADDRESS_OCTETS;
 use rules::KEY_OCTETS;
 ghost use mathlib.Core.Path.{_≡_};
@@ -93,7 +94,7 @@ fn feed_lines(b: Book, kept: usize, line: &mut [u8], piece: &[u8], out: &mut [u8
     let mut at = 0;
     let mut written = 0;
     while at < piece.len() && MOST_ANSWER <= out.len() - written {
-        let end = bytes::scan::find(piece, at, piece.len(), LINE_FEED);
+        let end = find(piece, at, LINE_FEED);
         let text = keep(line, here, piece, at, end);
         if end == piece.len() {
             here = text;
