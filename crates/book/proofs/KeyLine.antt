@@ -23,7 +23,6 @@ use Rattle.book.specs.Hex.{digit, octetsOf}
 use Rattle.book.specs.Text.{tab, parts}
 use Rattle.book.specs.Line.{fields, field, keyWord, isHex, isKeyId, isKeyLine}
 use Rattle.book.specs.Handed.{keyAt, keyIdAt, ownAt, peerAt, keyLineOctets, wordPart, keyPart, keyIdPart, ownPart, peerPart, KeyTabs, Given}
-use Rattle.book.proofs.Hexadecimals.{length-digits}
 use Rattle.book.proofs.Forms.{one-field}
 use Rattle.book.proofs.Parts.{whole-slice, parts-some, parts-found, parts-none}
 
@@ -179,17 +178,6 @@ module _ (line : List ℕ) (size : length line ≡ keyLineOctets) (i n r : ℕ) 
 
   pub at-found : r ≡ i + n → indexOf tab (drop i line) ≡ n
   at-found e = omega (arith, from)
-
--- digits that are to fill a room
-pub none-read : (digits out : List ℕ) → none ≡ octetsOf digits → (false ≡ not (isNone (octetsOf digits))) × (false ≡ true → out ≡ contents (octetsOf digits))
-none-read digits out e = (rw (sym e), never)
-
-pub all-read : (digits out : List ℕ) (n : ℕ) → some (take n out) ≡ octetsOf digits → n ≤ length out → length digits ≡ 2 * length out
-    → (true ≡ not (isNone (octetsOf digits))) × (true ≡ true → out ≡ contents (octetsOf digits))
-all-read digits out n e l z =
-    let size = length-digits digits (take n out) (sym e) in
-    let all : take n out ≡ out = take-all n out (omega (arith, length-take-le n out l)) in
-    (rw (sym e), λ t. rw (sym e) (sym all))
 
 -- a line 1 that is not good
 pub refused : (k : Keys) (fs : List (List ℕ)) → k .good ≡ false → (isKeyLine fs ≡ true → ⊥) → (k .good ≡ isKeyLine fs) × (k .good ≡ true → Given fs k)

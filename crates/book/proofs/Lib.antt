@@ -1,4 +1,5 @@
 mod Answered
+mod Blocks
 pub mod Decimals
 mod Digits
 mod Feeding

@@ -1,6 +1,6 @@
--- A turn of put_hex stores two of the digits that are left, and a turn of read_hex reads two; at the end none are left.
+-- A turn of put_hex stores two of the digits that are left, and a turn of read_all reads two; at the end none are left.
 use mathlib.Core.Path.{_≡_, refl, sym, ap, _∙_}
-use mathlib.Core.Bool.{Bool, true, false, cond, _&&_}
+use mathlib.Core.Bool.{Bool, true, false, cond, not, _&&_, true≢false}
 use mathlib.Core.List.{List, [], _∷_, _++_, append-assoc, append-nil}
 use mathlib.Core.Option.{Option, none, some}
 use Prim.Native.Nat.{ℕ, suc, _+_, _*_, _/_, _%_, _≤_, _<_}
@@ -9,7 +9,8 @@ use native.Mathlib.Omega.{arith}
 use borrow.Author.Tests.{ltb-true}
 use lib.Dec.{ltb}
 use lib.ListN.{length, take, drop, getD, set, drop-of-length-le}
-use lib.Seq.{sets, drop-cons, take-suc-set}
+use lib.Seq.{sets, drop-cons, take-suc-set, take-all}
+use Rattle.octets.specs.Options.{isNone, contents}
 use Rattle.book.specs.Hex.{letter, digit, hexOf, before, octetsOf}
 use Rattle.book.proofs.Hexadecimals.{length-digits}
 
@@ -30,7 +31,7 @@ two-more s j h =
     let e : j + 2 ≡ suc (suc j) = omega arith in
     rw (add-one j, e) (drop-cons s j 0 (omega arith) ∙ ap (λ t. getD s j 0 ∷ t) (drop-cons s (suc j) 0 (omega arith)))
 
-before-before : (a b : List ℕ) (r : Option (List ℕ)) → before a (before b r) ≡ before (a ++ b) r
+pub before-before : (a b : List ℕ) (r : Option (List ℕ)) → before a (before b r) ≡ before (a ++ b) r
 before-before a b none = refl
 before-before a b (some m) = ap some (sym (append-assoc a b m))
 
@@ -65,11 +66,23 @@ read-none s = by (octetsOf s)
     by none = refl
     by (some l) = refl
 
-pub read-all : (s first : List ℕ) (n : ℕ) → length s ≡ 2 * n → soFar true first (drop (2 * n) s) ≡ some first
+pub read-all : (s first : List ℕ) (n : ℕ) (good : Bool) → length s ≡ 2 * n → soFar good first (drop (2 * n) s) ≡ cond good (some first) none
 unfolding octetsOf
-read-all s first n e =
+read-all s first n good e =
     let l : length s ≤ 2 * n = omega arith in
-    rw (drop-of-length-le s l) (ap some (append-nil first))
+    rw (drop-of-length-le s l) (ap (λ (t : List ℕ). cond good (some t) none) (append-nil first))
+
+-- what is promised of digits that are read into all of a room
+abbrev pub Filled : List ℕ → List ℕ → Bool → Type 0
+Filled s out good = (good ≡ not (isNone (octetsOf s))) × (good ≡ true → out ≡ contents (octetsOf s))
+
+filled : (s out : List ℕ) (good : Bool) → octetsOf s ≡ cond good (some out) none → Filled s out good
+filled s out true e = (rw e, λ t. rw e)
+filled s out false e = (rw e, λ t. absurd (true≢false (sym t)))
+
+pub filled-all : (s out : List ℕ) (i : ℕ) (good : Bool) → length s ≡ 2 * length out → i ≡ length out → octetsOf s ≡ soFar good (take i out) (drop (2 * i) s) → Filled s out good
+filled-all s out i good z e h =
+    filled s out good (h ∙ read-all s (take i out) i good (omega arith) ∙ ap (λ (t : List ℕ). cond good (some t) none) (take-all i out (omega arith)))
 
 pub read-odd : (s : List ℕ) → length s % 2 ≡ 1 → octetsOf s ≡ none
 read-odd s h = by (octetsOf s) refl

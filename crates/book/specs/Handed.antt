@@ -30,6 +30,15 @@ abbrev pub countIn : Read → ℕ
 countIn read.Malformed = 0
 countIn (read.Octets n) = n
 
+-- how many octets are read at once, from digits two by two as one number each
+abbrev pub block : ℕ
+block = 32
+
+abbrev pub pairs : List ℕ → List ℕ
+pairs [] = []
+pairs (x ∷ []) = []
+pairs (x ∷ y ∷ t) = (x + 256 * y) ∷ pairs t
+
 -- what a request asks, its frame being in the front of a room
 abbrev pub requestIn : Request → List ℕ → Asked
 requestIn Malformed room = malformed

@@ -1,10 +1,12 @@
 // Octets in lower-case hexadecimal, read and written.
 ghost use mathlib.Core.Path.{_≡_};
+ghost use mathlib.Core.Bool.{true, not};
 ghost use Prim.Native.Nat.{_+_, _*_, _≤_, _<_};
 ghost use lib.ListN.{length};
+ghost use Rattle.octets.specs.Options.{contents, isNone};
 ghost use Rattle.book.specs.Hex.{letter, digit, hexOf, octetsOf};
 ghost use Rattle.book.specs.Put.{put};
-ghost use Rattle.book.specs.Handed.{readIn, countIn};
+ghost use Rattle.book.specs.Handed.{readIn, countIn, block, pairs};
 
 // How many octets digits write, or that they write none.
 pub(crate) enum Read {
@@ -25,8 +27,68 @@ pub(crate) fn digit_of(x: u8) -> u8
     16
 }
 
-// Reads the octets that the digits write into the front of out. Whether all are digits is gathered over the loop, which then
-// has no branch on what it reads.
+// Reads digits that are to fill all of out. Whether all are digits is gathered over the loop, which then has no branch on what
+// it reads.
+pub(crate) fn read_all(digits: &[u8], out: &mut [u8]) -> bool
+    requires { ⌜ length (now digits) ≡ 2 * length (now out) ⌝ }
+    ensures { λ r. ⌜ r ≡ not (isNone (octetsOf (now (digits .entry)))) ⌝ }
+    ensures { λ r. ⌜ (r ≡ true → now (out .exit) ≡ contents (octetsOf (now (digits .entry)))) ⌝ }
+{
+    let mut i = 0;
+    let mut good = true;
+    while i < out.len() {
+        let high = digit_of(digits[2 * i]);
+        let low = digit_of(digits[2 * i + 1]);
+        good = good & (high < 16) & (low < 16);
+        out[i] = 16 * (high % 16) + low % 16;
+        i += 1;
+    }
+    good
+}
+
+// The octets that are read at once.
+const BLOCK: usize = 32;
+
+fn wide(x: u8) -> u16
+    ensures { λ r. ⌜ (r ≡ x) × (r < 256) ⌝ }
+{
+    x as u16
+}
+
+// The digits of a block, each two as one number.
+fn pairs_of(digits: &[u8]) -> [u16; BLOCK]
+    requires { ⌜ length (now digits) ≡ 2 * block ⌝ }
+    ensures { λ r. ⌜ r ≡ pairs (now (digits .entry)) ⌝ }
+{
+    let mut pairs = [0u16; BLOCK];
+    let mut i = 0;
+    while i < BLOCK {
+        pairs[i] = wide(digits[2 * i]) + 256 * wide(digits[2 * i + 1]);
+        i += 1;
+    }
+    pairs
+}
+
+// Reads a block as read_all does, from its pairs: of these many are read at once, which single digits two apart are not.
+fn read_block(digits: &[u8], out: &mut [u8]) -> bool
+    requires { ⌜ (length (now digits) ≡ 2 * length (now out)) × (length (now out) ≡ block) ⌝ }
+    ensures { λ r. ⌜ r ≡ not (isNone (octetsOf (now (digits .entry)))) ⌝ }
+    ensures { λ r. ⌜ (r ≡ true → now (out .exit) ≡ contents (octetsOf (now (digits .entry)))) ⌝ }
+{
+    let pairs = pairs_of(digits);
+    let mut i = 0;
+    let mut good = true;
+    while i < BLOCK {
+        let high = digit_of((pairs[i] % 256) as u8);
+        let low = digit_of((pairs[i] / 256) as u8);
+        good = good & (high < 16) & (low < 16);
+        out[i] = 16 * (high % 16) + low % 16;
+        i += 1;
+    }
+    good
+}
+
+// Reads the octets that the digits write into the front of out, in blocks as far as they go.
 pub(crate) fn read_hex(digits: &[u8], out: &mut [u8]) -> Read
     requires { ⌜ length (now digits) ≤ 2 * length (now out) ⌝ }
     ensures { λ r. ⌜ readIn r (now (out .exit)) ≡ octetsOf (now (digits .entry)) ⌝ }
@@ -38,14 +100,17 @@ pub(crate) fn read_hex(digits: &[u8], out: &mut [u8]) -> Read
     let n = digits.len() / 2;
     let mut i = 0;
     let mut good = true;
-    while i < n {
-        let high = digit_of(digits[2 * i]);
-        let low = digit_of(digits[2 * i + 1]);
-        good = good & (high < 16) & (low < 16);
-        out[i] = 16 * (high % 16) + low % 16;
-        i += 1;
+    while BLOCK <= n - i {
+        let from = 2 * i;
+        let end = i + BLOCK;
+        let to = 2 * end;
+        let read = read_block(&digits[from..to], &mut out[i..end]);
+        good = good & read;
+        i = end;
     }
-    if good {
+    let from = 2 * i;
+    let read = read_all(&digits[from..], &mut out[i..n]);
+    if good & read {
         Read::Octets(n)
     } else {
         Read::Malformed

@@ -1,17 +1,16 @@
 // The forms of a line.
 use crate::hex::Read;
 use crate::hex::digit_of;
+use crate::hex::read_all;
 use crate::hex::read_hex;
 use ccmp::MOST_KEY_ID;
 use rules::ADDRESS_OCTETS;
 use rules::KEY_OCTETS;
 ghost use mathlib.Core.Path.{_≡_};
-ghost use mathlib.Core.Bool.{true, false, not};
-ghost use Prim.Native.Nat.{_*_, _≤_};
+ghost use mathlib.Core.Bool.{true, false};
+ghost use Prim.Native.Nat.{_≤_};
 ghost use lib.ListN.{length};
-ghost use Rattle.octets.specs.Options.{contents, isNone};
 ghost use Rattle.book.specs.Limits.{mostFrame};
-ghost use Rattle.book.specs.Hex.{octetsOf};
 ghost use Rattle.book.specs.Line.{fields, isKeyLine, asked};
 ghost use Rattle.book.specs.Handed.{requestIn, frameIn, KeyTabs, Given};
 
@@ -103,18 +102,6 @@ fn is_parted(line: &[u8]) -> bool
         return false;
     }
     bytes::scan::find(line, OWN_AT, PEER_END, TAB) == OWN_END
-}
-
-// Reads digits that are to fill all of out.
-fn read_all(digits: &[u8], out: &mut [u8]) -> bool
-    requires { ⌜ length (now digits) ≡ 2 * length (now out) ⌝ }
-    ensures { λ r. ⌜ r ≡ not (isNone (octetsOf (now (digits .entry)))) ⌝ }
-    ensures { λ r. ⌜ (r ≡ true → now (out .exit) ≡ contents (octetsOf (now (digits .entry)))) ⌝ }
-{
-    match read_hex(digits, out) {
-        Read::Malformed => false,
-        Read::Octets(_) => true,
-    }
 }
 
 fn no_keys() -> Keys

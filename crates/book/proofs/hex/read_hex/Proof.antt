@@ -1,11 +1,16 @@
--- The octets so far, before those that the digits left write, are what all the digits write, as long as each was a digit.
+-- As in read_all, with a part of the digits in each turn, and what is left of them at the end.
 use borrow.Author.Needs.{needs}
 use mathlib.Core.Path.{_≡_, refl, sym, _∙_}
-use Prim.Native.Nat.{_*_, _-_, _/_, _≤_, zero-le}
+use mathlib.Core.Bool.{Bool, cond, _&&_}
+use mathlib.Core.List.{List, _++_}
+use mathlib.Core.Option.{none, some}
+use Prim.Native.Nat.{ℕ, _+_, _*_, _-_, _/_, _≤_, zero-le}
 use native.Mathlib.Omega.{arith}
-use lib.ListN.{length, take, drop, length-set}
+use lib.ListN.{length, take, drop}
 use Rattle.book.specs.Hex.{octetsOf}
-use Rattle.book.proofs.Turns.{soFar, read-turn, read-none, read-all, read-odd}
+use Rattle.book.specs.Handed.{block}
+use Rattle.book.proofs.Turns.{soFar, read-none, read-all, read-odd}
+use Rattle.book.proofs.Blocks.{part-turn}
 use Rattle.book.proofs.hex.read_hex.Statement.{statement}
 use Rattle.book.proofs.hex.read_hex.Tie as tie
 
@@ -26,28 +31,47 @@ loop-holds c =
 
 loop-again : tie.Need-loop-again Inv-loop μ-loop
 loop-again c =
-    let high = c .before .before .digit-of in
-    let low = c .digit-of2 in
-    let c₁ = c .before .before .before .before .before in
-    let l = c₁ .loop in
-    let digits = c₁ .before .before .before .before .args .digits .now in (
+    let r = c .before .before .read-block in
+    let top = c .before .before .before .before .before .before in
+    let l = top .loop in
+    let digits = top .before .before .before .before .args .digits .now in (
       omega arith,
       l .inv .1,
-      simp length-set (l .inv .2),
+      search needs,
       l .inv .3
-          ∙ read-turn digits (l .out) (l .i) (l .good) (high .result) (low .result) (omega arith) (omega arith) (high .ensures) (low .ensures),
+          ∙ part-turn digits (l .out) (l .i) (l .i + block) (2 * (l .i + block) - 2 * l .i) (l .good) (omega arith) (omega arith) (omega arith) (omega arith) (r .last .1 .0) _ (r .result) (search needs) (r .ensures .0, r .ensures .1),
     )
 
+-- where what is left has been read
+module _ (c : tie.After-slice-known3 Inv-loop μ-loop) where
+  abbrev top : tie.At-loop Inv-loop μ-loop
+  top = c .before .before .before .before .before .before
+
+  abbrev digits : List ℕ
+  digits = top .before .before .before .before .args .digits .now
+
+  abbrev n : ℕ
+  n = length digits / 2
+
+  abbrev good : Bool
+  good = top .loop .good && c .before .before .read-all .result
+
+  abbrev out : List ℕ
+  out = take (top .loop .i) (top .loop .out) ++ (c .before .before .read-all .last .1 .0 ++ drop (n - top .loop .i) (drop (top .loop .i) (top .loop .out)))
+
+  read : octetsOf digits ≡ cond good (some (take n out)) none
+  read =
+      let l = top .loop in
+      let r = c .before .before .read-all in
+      l .inv .3
+      ∙ part-turn digits (l .out) (l .i) n (length digits - 2 * l .i) (l .good) (omega arith) (omega arith) (omega arith) (omega arith) (r .last .1 .0) _ (r .result) (search needs) (r .ensures .0, r .ensures .1)
+      ∙ read-all digits (take n out) n good (l .inv .1)
+
 returns-2 : tie.Need-returns-2 Inv-loop μ-loop
-returns-2 c =
-    let l = c .before .before .loop in
-    let digits = c .before .before .before .before .before .before .args .digits .now in
-    let n = length digits / 2 in
-    let e : l .i ≡ n = omega arith in
-    (sym (rw (c .if2 .taken, e) at (l .inv .3) ∙ read-all digits (take n (l .out)) n (l .inv .1)), omega arith)
+returns-2 c = (sym (rw (c .if2 .taken) at (read (c .before))), search needs)
 
 returns-3 : tie.Need-returns-3 Inv-loop μ-loop
-returns-3 c = (sym (rw (c .if2 .left) at (c .before .before .loop .inv .3)), zero-le)
+returns-3 c = (sym (rw (c .if2 .left) at (read (c .before))), zero-le)
 
 pub read-hex-spec : {M : Type 1} → statement M
 read-hex-spec =
@@ -59,17 +83,25 @@ read-hex-spec =
     loop-holds
     (λ c. search needs)
     (λ c. search needs)
+    (λ c. search needs)
+    (λ c. search needs)
+    (λ c. search needs)
+    (λ c. search needs)
+    (λ c. search needs)
+    (λ c. search needs)
+    (λ c. search needs)
+    (λ c. search needs)
     (λ c κs. search needs)
-    (λ c. search needs)
-    (λ c. search needs)
-    (λ c. search needs)
-    (λ c κs. search needs)
-    (λ c. search needs)
-    (λ c. search needs)
-    (λ c. search needs)
-    (λ c. search needs)
     (λ c. search needs)
     loop-again
+    (λ c. search needs)
+    (λ c. search needs)
+    (λ c. search needs)
+    (λ c. search needs)
+    (λ c. search needs)
+    (λ c. search needs)
+    (λ c. search needs)
+    (λ c κs. search needs)
     (λ c. search needs)
     returns-2
     (λ c. search needs)
