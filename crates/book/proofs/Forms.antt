@@ -1,42 +1,37 @@
--- The forms of a line, by the place of its first tab.
+-- A later line that asks something begins with a word and a tab; the text after them is its only other field.
 use mathlib.Core.Path.{_≡_, refl, sym, ap, _∙_}
-use mathlib.Core.Bool.{true, false}
+use mathlib.Core.Bool.{Bool, true, false}
 use mathlib.Core.Logic.{⊎-elim}
-use mathlib.Core.List.{List, [], _∷_}
+use mathlib.Core.List.{List, [], _∷_, _++_, append-assoc}
 use mathlib.Core.Option.{Option, none, some}
 use Prim.Native.Nat.{ℕ, suc, _+_, _-_, _≤_, _<_}
 use native.Mathlib.Omega.{arith}
-use native.Mathlib.Numerals.{add-one}
 use borrow.Author.Tests.{lt-ltb, le-ltb, ne-eqb}
-use lib.ListN.{length, take, drop, length-drop}
-use lib.Seq.{take-all}
+use lib.ListN.{length, take, drop, length-append, length-drop, take-append-drop}
+use lib.Seq.{take-all, take-at}
 use Rattle.octets.specs.Octets.{same}
 use Rattle.octets.proofs.Orders.{le-or-lt}
-use Rattle.bytes.specs.Bytes.{slice, indexOf}
+use Rattle.octets.proofs.Same.{same-refl, same-is, sizes-differ}
+use Rattle.bytes.specs.Bytes.{indexOf}
 use Rattle.book.specs.Limits.{mostLine}
 use Rattle.book.specs.Hex.{octetsOf}
 use Rattle.book.specs.Text.{tab, parts}
-use Rattle.book.specs.Line.{fields, sealWord, openWord, malformed, sealing, opening, askedOf, asked}
+use Rattle.book.specs.Line.{fields, sealWord, openWord, malformed, askedOf, asked}
 use Rattle.book.proofs.Hexadecimals.{no-digit}
-use Rattle.book.proofs.Parts.{whole-slice, parts-some, parts-found, parts-none, split-found}
+use Rattle.book.proofs.Parts.{parts-some, parts-found, parts-none, split-found}
+
+-- where the digits begin
+abbrev pub digitsAt : ℕ
+digitsAt = 5
 
 pub too-long : (line : List ℕ) → mostLine < length line → malformed ≡ asked (fields line)
 unfolding fields asked
 too-long line h = rw (lt-ltb mostLine (length line) h)
 
-module _ (word : List ℕ) where
-  pub seals : same word sealWord ≡ true → (f : List ℕ) → sealing f ≡ askedOf word (some f)
-  unfolding askedOf
-  seals e f = rw e
-
-  pub opens : same word sealWord ≡ false → same word openWord ≡ true → (f : List ℕ) → opening f ≡ askedOf word (some f)
-  unfolding askedOf
-  opens e d f = rw (e, d)
-
-  pub neither : same word sealWord ≡ false → same word openWord ≡ false → (o : Option (List ℕ)) → malformed ≡ askedOf word o
-  unfolding askedOf
-  neither e d none = refl
-  neither e d (some f) = rw (e, d)
+neither : (word : List ℕ) → same word sealWord ≡ false → same word openWord ≡ false → (o : Option (List ℕ)) → malformed ≡ askedOf word o
+unfolding askedOf
+neither word e d none = refl
+neither word e d (some f) = rw (e, d)
 
 -- text that digits write has no tab
 pub one-field : (s l : List ℕ) → octetsOf s ≡ some l → parts tab s ≡ s ∷ []
@@ -62,22 +57,59 @@ two-fields word s = go (octetsOf s) refl
         (λ h. let q = parts-some tab (drop (suc (indexOf tab s)) s) in more (take (indexOf tab s) s) (q .0) (q .1 .0) (parts-found tab s h ∙ ap (λ (r : List (List ℕ)). take (indexOf tab s) s ∷ r) (q .1 .1)))
         (le-or-lt (length s) (indexOf tab s))
 
-module _ (line : List ℕ) (fits : length line ≤ mostLine) (end : ℕ) (found : end ≡ 0 + indexOf tab (slice 0 (length line) line)) where
-  place : end ≡ indexOf tab line
-  place = let e : 0 + indexOf tab line ≡ indexOf tab line = omega arith in found ∙ ap (λ (s : List ℕ). 0 + indexOf tab s) (whole-slice line 0) ∙ e
+-- the word of a line that asks something, with the tab after it
+module _ (word : List ℕ) where
+  abbrev tabbed : List ℕ
+  tabbed = word ++ (tab ∷ [])
 
-  pub no-tab : end ≡ length line → malformed ≡ asked (fields line)
-  unfolding fields asked
-  no-tab e = rw (le-ltb mostLine (length line) fits, parts-none tab line (omega (arith, place)))
-
-  -- the word, and what its text after the tab reads as
-  pub asked-is : end < length line → (o : Option (List ℕ)) → o ≡ octetsOf (take (length line - (end + 1)) (drop (end + 1) line))
-      → askedOf (take end line) o ≡ asked (fields line)
+  -- a line that begins with it, by what the text after it reads as
+  pub asked-is : ((s : List ℕ) → parts tab (word ++ (tab ∷ s)) ≡ word ∷ parts tab s) → (line : List ℕ) → length line ≤ mostLine → same (take digitsAt line) tabbed ≡ true
+      → (o : Option (List ℕ)) → o ≡ octetsOf (take (length line - digitsAt) (drop digitsAt line)) → askedOf word o ≡ asked (fields line)
   unfolding fields
-  asked-is l o e =
-      let rest : take (length line - (end + 1)) (drop (end + 1) line) ≡ drop (suc end) line
-      = take-all (length line - (end + 1)) (drop (end + 1) line) (omega (arith, length-drop (end + 1) line)) ∙ ap (λ (n : ℕ). drop n line) (add-one end) in
-      ap (askedOf (take end line)) (e ∙ ap octetsOf rest)
-      ∙ sym (two-fields (take end line) (drop (suc end) line))
-      ∙ ap (λ (n : ℕ). asked (take n line ∷ parts tab (drop (suc n) line))) place
-      ∙ rw (le-ltb mostLine (length line) fits) (ap asked (sym (parts-found tab line (omega (arith, place)))))
+  asked-is h line fits e o r =
+      let rest : take (length line - digitsAt) (drop digitsAt line) ≡ drop digitsAt line = take-all (length line - digitsAt) (drop digitsAt line) (omega (arith, length-drop digitsAt line)) in
+      let whole : line ≡ word ++ (tab ∷ drop digitsAt line)
+      = sym (take-append-drop digitsAt line) ∙ ap (λ (p : List ℕ). p ++ drop digitsAt line) (same-is (take digitsAt line) tabbed e) ∙ append-assoc word (tab ∷ []) (drop digitsAt line) in
+      ap (askedOf word) (r ∙ ap octetsOf rest)
+      ∙ sym (two-fields word (drop digitsAt line))
+      ∙ ap asked (sym (h (drop digitsAt line)) ∙ ap (parts tab) (sym whole))
+      ∙ rw (le-ltb mostLine (length line) fits)
+
+  -- a line that doesn't has another one
+  another : (line : List ℕ) → length word + 1 ≡ digitsAt → indexOf tab line < length line → same (take digitsAt line) tabbed ≡ false
+      → same (take (indexOf tab line) line) word ≡ false
+  another line z l e = by (same (take (indexOf tab line) line) word) refl
+    where
+      by : (b : Bool) → same (take (indexOf tab line) line) word ≡ b → b ≡ false
+      by false f = refl
+      by true f =
+          let rest = drop (suc (indexOf tab line)) line in
+          let whole : line ≡ tabbed ++ rest
+          = split-found tab line l ∙ ap (λ (p : List ℕ). p ++ (tab ∷ rest)) (same-is (take (indexOf tab line) line) word f) ∙ sym (append-assoc word (tab ∷ []) rest) in
+          let front : take digitsAt line ≡ tabbed = ap (take digitsAt) whole ∙ take-at tabbed rest digitsAt (length-append word (tab ∷ []) ∙ z) in
+          sym (same-refl tabbed) ∙ ap (λ (p : List ℕ). same p tabbed) (sym front) ∙ e
+
+pub neither-is : (line : List ℕ) → length line ≤ mostLine → same (take digitsAt line) (sealWord ++ (tab ∷ [])) ≡ false → same (take digitsAt line) (openWord ++ (tab ∷ [])) ≡ false
+    → malformed ≡ asked (fields line)
+unfolding fields asked
+neither-is line fits e d =
+    ⊎-elim
+    (λ h. rw (le-ltb mostLine (length line) fits, parts-none tab line h))
+    (λ h. neither (take (indexOf tab line) line) (another sealWord line refl h e) (another openWord line refl h d) (octetsOf (drop (suc (indexOf tab line)) line))
+    ∙ sym (two-fields (take (indexOf tab line) line) (drop (suc (indexOf tab line)) line))
+    ∙ ap asked (sym (parts-found tab line h)) ∙ rw (le-ltb mostLine (length line) fits))
+    (le-or-lt (length line) (indexOf tab line))
+
+pub too-short : (line : List ℕ) → length line < digitsAt → malformed ≡ asked (fields line)
+too-short line h = neither-is line (omega arith) (short sealWord refl) (short openWord refl)
+  where
+    short : (word : List ℕ) → length word + 1 ≡ digitsAt → same (take digitsAt line) (word ++ (tab ∷ [])) ≡ false
+    short word z = sizes-differ (take digitsAt line) (word ++ (tab ∷ [])) (λ e. omega (arith, e, length-append word (tab ∷ []), ap length (take-all digitsAt line (omega arith))))
+
+pub seal-parts : (s : List ℕ) → parts tab (sealWord ++ (tab ∷ s)) ≡ sealWord ∷ parts tab s
+unfolding parts
+seal-parts s = refl
+
+pub open-parts : (s : List ℕ) → parts tab (openWord ++ (tab ∷ s)) ≡ openWord ∷ parts tab s
+unfolding parts
+open-parts s = refl

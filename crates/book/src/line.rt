@@ -38,6 +38,9 @@ const PEER_AT: usize = OWN_END + 1;
 
 const PEER_END: usize = PEER_AT + 2 * ADDRESS_OCTETS;
 
+// Where the digits of a later line begin, after `seal` or `open` and a tab.
+const DIGITS_AT: usize = 5;
+
 // What a later line asks, the frame being so many octets.
 pub(crate) enum Request {
     Malformed,
@@ -64,19 +67,17 @@ pub(crate) fn request_of(line: &[u8], frame: &mut [u8]) -> Request
     if MOST_LINE < n {
         return Request::Malformed;
     }
-    let end = bytes::scan::find(line, 0, n, TAB);
-    if end == n {
+    if n < DIGITS_AT {
         return Request::Malformed;
     }
-    let digits = end + 1;
-    if octets::equal(&line[..end], b"seal") {
-        return match read_hex(&line[digits..], frame) {
+    if octets::equal(&line[..DIGITS_AT], b"seal\t") {
+        return match read_hex(&line[DIGITS_AT..], frame) {
             Read::Malformed => Request::Malformed,
             Read::Octets(k) => Request::Seal(k),
         };
     }
-    if octets::equal(&line[..end], b"open") {
-        return match read_hex(&line[digits..], frame) {
+    if octets::equal(&line[..DIGITS_AT], b"open\t") {
+        return match read_hex(&line[DIGITS_AT..], frame) {
             Read::Malformed => Request::Malformed,
             Read::Octets(k) => Request::Open(k),
         };
