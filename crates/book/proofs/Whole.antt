@@ -1,11 +1,11 @@
 -- However a text comes in pieces, the output is that to the whole: the line that has not ended goes on in the next piece.
 use mathlib.Core.Path.{_≡_, refl, sym, ap, ap₂, _∙_}
 use mathlib.Core.List.{List, [], _∷_, _++_, append-assoc, append-nil}
-use Prim.Native.Nat.{ℕ, _≤_}
+use Prim.Native.Nat.{ℕ, suc, _≤_}
 use native.Mathlib.Omega.{arith}
-use lib.ListN.{length, length-take}
+use lib.ListN.{length, take}
 use lib.Seq.{take-take, take-all}
-use Rattle.book.specs.Limits.{mostKept}
+use Rattle.book.specs.Limits.{mostLine, mostKept}
 use Rattle.book.specs.declared.Book.{Book}
 use Rattle.book.specs.Text.{lineFeed, prefix, parts, allButLast, lastOf, unended, lines}
 use Rattle.book.specs.Book.{newBook, bookSays, bookNext}
@@ -103,12 +103,16 @@ unfolding parts
 line-feed b [] h = absurd (h refl)
 line-feed b (x ∷ p) h = ap (λ (l : List ℕ). says b ((x ∷ l) ∷ [])) (append-nil p)
 
-last-cut : (b : Book) (p q : List ℕ) → cut p ≡ cut q → says b (unended p) ≡ says b (unended q)
+-- two last lines of which the book says the same, and of which neither or both are empty
+last-said : (b : Book) (p q : List ℕ) (n : ℕ) → take (suc n) p ≡ take (suc n) q → bookSays b p ≡ bookSays b q → says b (unended p) ≡ says b (unended q)
 unfolding says
-last-cut b [] [] e = refl
-last-cut b [] (y ∷ q) e = absurd (omega (arith, ap length e, length-take mostKept (y ∷ q)))
-last-cut b (x ∷ p) [] e = absurd (omega (arith, ap length e, length-take mostKept (x ∷ p)))
-last-cut b (x ∷ p) (y ∷ q) e = ap (λ (l : List ℕ). l ++ []) (same-says b (x ∷ p) (y ∷ q) e)
+last-said b [] [] n e h = refl
+last-said b [] (y ∷ q) n e h = absurd (omega (arith, ap length e))
+last-said b (x ∷ p) [] n e h = absurd (omega (arith, ap length e))
+last-said b (x ∷ p) (y ∷ q) n e h = ap (λ (l : List ℕ). l ++ []) h
+
+last-cut : (b : Book) (p q : List ℕ) → cut p ≡ cut q → says b (unended p) ≡ says b (unended q)
+last-cut b p q e = last-said b p q mostLine e (same-says b p q e)
 
 from-any : (ts : List (List ℕ)) (b : Book) (p q : List ℕ) → cut p ≡ cut q → fedOutput b p ts ≡ says b (ended q (joined ts) ++ unended (left q (joined ts)))
 unfolding fedOutput parts
