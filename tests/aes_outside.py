@@ -15,12 +15,13 @@ cases = int(sys.argv[1]) if len(sys.argv) > 1 else 10_000
 seed = int(sys.argv[2]) if len(sys.argv) > 2 else 1
 exported = proved.library()
 source = random.Random(seed)
-schedule = ctypes.create_string_buffer(176)
+table, schedule = (ctypes.c_uint64 * 256)(), ctypes.create_string_buffer(176)
+exported.bench_aes_fill(table)
 for case in range(cases):
     key, block = source.randbytes(16), source.randbytes(16)
     ours = ctypes.create_string_buffer(block, 16)
-    exported.bench_aes_expand(key, schedule)
-    exported.bench_aes_encrypt(schedule, ours)
+    exported.bench_aes_expand(table, key, schedule)
+    exported.bench_aes_encrypt(table, schedule, ours)
     theirs = Cipher(algorithms.AES(key), modes.ECB()).encryptor().update(block)
     if ours.raw != theirs:
         sys.exit(f"case {case} of seed {seed}: key {key.hex()} block {block.hex()}: {ours.raw.hex()}, and outside {theirs.hex()}")

@@ -9,8 +9,9 @@ pub mod host;
 /// A slice passes as a pointer and a length.
 pub mod exported {
     extern "C" {
-        pub fn bench_aes_expand(key: &[u8; 16], w: &mut [u8; 176]);
-        pub fn bench_aes_encrypt(w: &[u8; 176], block: &mut [u8; 16]);
+        pub fn bench_aes_fill(t: &mut [u64; 256]);
+        pub fn bench_aes_expand(t: &[u64; 256], key: &[u8; 16], w: &mut [u8; 176]);
+        pub fn bench_aes_encrypt(t: &[u64; 256], w: &[u8; 176], block: &mut [u8; 16]);
         pub fn bench_ccm_seal(
             key: &[u8; 16], nonce: &[u8; 13], aad: *const u8, aad_len: usize, body: *const u8, body_len: usize, out: *mut u8, out_len: usize,
         ) -> u64;
@@ -54,17 +55,25 @@ pub mod exported {
 
 // In each call below the declarations above are those of crates/bench, and its functions are proved for every input.
 
+/// The table of products that the other calls of AES are lent.
 #[inline]
-pub fn expand(key: &[u8; 16]) -> [u8; 176] {
+pub fn table() -> [u64; 256] {
+    let mut t = [0; 256];
+    unsafe { exported::bench_aes_fill(&mut t) };
+    t
+}
+
+#[inline]
+pub fn expand(t: &[u64; 256], key: &[u8; 16]) -> [u8; 176] {
     let mut w = [0; 176];
-    unsafe { exported::bench_aes_expand(key, &mut w) };
+    unsafe { exported::bench_aes_expand(t, key, &mut w) };
     w
 }
 
 #[inline]
-pub fn encrypt(w: &[u8; 176], block: &[u8; 16]) -> [u8; 16] {
+pub fn encrypt(t: &[u64; 256], w: &[u8; 176], block: &[u8; 16]) -> [u8; 16] {
     let mut out = *block;
-    unsafe { exported::bench_aes_encrypt(w, &mut out) };
+    unsafe { exported::bench_aes_encrypt(t, w, &mut out) };
     out
 }
 

@@ -1,4 +1,5 @@
-//! Times the proved code against `second` on the same work in one run. Each figure is the least of many runs, taken in turn.
+//! Times the proved code against `second` on the same work in one run. Each figure is the least of many runs, taken in turn. Given a number, it
+//! times frames alone, so many in each run, opened with windows of size 1.
 
 use second::aes::Aes128;
 use second::ccm::Ccm;
@@ -16,9 +17,10 @@ const ADDRESS: [u8; 6] = [2, 0, 0, 0, 0, 1];
 const LAST: u64 = 0x0102_0304_0506;
 const HEADER: usize = 26;
 
-/// Frames sealed one after another, and how often they are opened in a run, each time by a record as it was before the first of them.
-const ROW: usize = 64;
-const ROWS: usize = 32;
+/// Frames sealed or opened in a run where no number is given, and how many of them are opened one after another, by a record as it was before the
+/// first.
+const FRAMES: usize = 2_000;
+const ROW: usize = 50;
 
 /// Messages split and joined in a run, the size of their fragments, and the length of a sealed one.
 const PICTURES: usize = 1_000;
@@ -51,29 +53,33 @@ fn report(name: &str, pieces: usize, [ours, theirs]: [f64; 2]) {
 fn aes() {
     const BLOCKS: usize = 100_000;
     let key: [u8; 16] = std::array::from_fn(|i| i as u8);
-    let schedule = proved::expand(&key);
+    let table = proved::table();
+    let schedule = proved::expand(&table, &key);
     let cipher = Aes128::new(&key);
     assert_eq!(schedule, cipher.expanded());
 
     let (mut ours, mut theirs) = ([0u8; 16], [0u8; 16]);
     let times = compare(
-        || (0..BLOCKS).for_each(|_| ours = proved::encrypt(&schedule, &ours)),
+        || (0..BLOCKS).for_each(|_| ours = proved::encrypt(&table, &schedule, &ours)),
         || (0..BLOCKS).for_each(|_| theirs = cipher.encrypt(&theirs)),
     );
     assert_eq!(ours, theirs);
     report("aes: a chained block", BLOCKS, times);
 
     let times = compare(
-        || (0..BLOCKS as u128).for_each(|i| _ = black_box(proved::encrypt(&schedule, &i.to_be_bytes()))),
+        || (0..BLOCKS as u128).for_each(|i| _ = black_box(proved::encrypt(&table, &schedule, &i.to_be_bytes()))),
         || (0..BLOCKS as u128).for_each(|i| _ = black_box(cipher.encrypt(&i.to_be_bytes()))),
     );
     report("aes: a block by itself", BLOCKS, times);
 
     let times = compare(
-        || (0..BLOCKS as u128).for_each(|i| _ = black_box(proved::expand(&i.to_be_bytes()))),
+        || (0..BLOCKS as u128).for_each(|i| _ = black_box(proved::expand(&table, &i.to_be_bytes()))),
         || (0..BLOCKS as u128).for_each(|i| _ = black_box(Aes128::new(&i.to_be_bytes()))),
     );
     report("aes: a key schedule", BLOCKS, times);
+
+    let [filling] = least([&mut || (0..BLOCKS).for_each(|_| _ = black_box(proved::table()))]);
+    println!("{:<36} {:>9.1} ns", "aes: a table of products", filling / BLOCKS as f64);
 }
 
 /// Whole messages with 22 octets of authenticated data, the key expanded for each.
@@ -118,23 +124,22 @@ fn plain(length: usize) -> Vec<u8> {
 }
 
 /// Frames with a body of this length, the key expanded for each.
-fn frame(length: usize) {
-    const FRAMES: usize = 2_000;
+fn frame(length: usize, frames: usize, sizes: &[u8]) {
     let (sender, _) = records(1);
     let plain = plain(length);
     let (mut ours, mut theirs) = (vec![0; plain.len() + ADDED], vec![0; plain.len() + ADDED]);
 
     let times = compare(
-        || (0..FRAMES).for_each(|_| assert_eq!(proved::seal(&mut black_box(&sender).clone(), &plain, &mut ours)[0], 0)),
-        || (0..FRAMES).for_each(|_| assert!(black_box(&sender).clone().seal(&plain, &mut theirs).is_ok())),
+        || (0..frames).for_each(|_| assert_eq!(proved::seal(&mut black_box(&sender).clone(), &plain, &mut ours)[0], 0)),
+        || (0..frames).for_each(|_| assert!(black_box(&sender).clone().seal(&plain, &mut theirs).is_ok())),
     );
     assert_eq!(ours, theirs);
-    report(&format!("frame: {length} octets sealed"), FRAMES, times);
-    SIZES.into_iter().for_each(|size| opening(&plain, size));
+    report(&format!("frame: {length} octets sealed"), frames, times);
+    sizes.iter().for_each(|&size| opening(&plain, size, frames / ROW));
 }
 
-/// A row of these frames, in order.
-fn opening(plain: &[u8], size: u8) {
+/// A row of these frames, in order, again and again.
+fn opening(plain: &[u8], size: u8, rows: usize) {
     let (mut sender, receiver) = records(size);
     let record = proved::Record::from(&receiver);
     let mut row = vec![vec![0; plain.len() + ADDED]; ROW];
@@ -143,18 +148,18 @@ fn opening(plain: &[u8], size: u8) {
 
     let times = compare(
         || {
-            for mut record in (0..ROWS).map(|_| black_box(&record).clone()) {
+            for mut record in (0..rows).map(|_| black_box(&record).clone()) {
                 row.iter().for_each(|sealed| assert_eq!(proved::open(&mut record, sealed, &mut ours)[0], 0));
             }
         },
         || {
-            for mut receiver in (0..ROWS).map(|_| black_box(&receiver).clone()) {
+            for mut receiver in (0..rows).map(|_| black_box(&receiver).clone()) {
                 row.iter().for_each(|sealed| assert!(receiver.open(sealed, &mut theirs).is_ok()));
             }
         },
     );
     assert_eq!([&ours, &theirs], [plain; 2]);
-    report(&format!("frame: {} octets opened, size {size}", plain.len() - HEADER), ROWS * ROW, times);
+    report(&format!("frame: {} octets opened, size {size}", plain.len() - HEADER), rows * ROW, times);
 }
 
 /// The greatest message as 16 fragments: cut and sealed in one call, and its plain fragments sealed one by one.
@@ -211,9 +216,17 @@ fn fragments() {
 }
 
 fn main() {
+    let given = std::env::args().nth(1).map(|words| words.parse().expect("a number of frames"));
+    let frames: usize = given.unwrap_or(FRAMES);
+    let sizes = if given.is_none() { &SIZES[..] } else { &[1] };
+    assert_eq!(frames % ROW, 0, "frames are opened in rows of {ROW}");
     println!("{:<36} {:>12} {:>12} {:>6}", "work", "proved", "second", "ratio");
-    aes();
-    [64, 1_500, MAX_BODY].into_iter().for_each(ccm);
-    [64, 1_500, MAX_BODY].into_iter().for_each(frame);
-    fragments();
+    if given.is_none() {
+        aes();
+        [64, 1_500, MAX_BODY].into_iter().for_each(ccm);
+    }
+    [64, 1_500, MAX_BODY].into_iter().for_each(|length| frame(length, frames, sizes));
+    if given.is_none() {
+        fragments();
+    }
 }

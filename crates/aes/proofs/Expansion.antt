@@ -1,5 +1,5 @@
 -- One word of the key schedule, and one turn of each loop that fills it.
-use mathlib.Core.Path.{_≡_, sym, ap, ap₂, _∙_}
+use mathlib.Core.Path.{_≡_, refl, sym, ap, ap₂, _∙_}
 use mathlib.Core.List.{List, [], _∷_, _++_}
 use Prim.Native.Nat.{ℕ, suc, _+_, _-_, _*_, _/_, _%_, _<_, _≤_}
 use native.Mathlib.Numerals.{add-one}
@@ -7,7 +7,7 @@ use native.Mathlib.Omega.{arith}
 use borrow.Author.Tests.{eq-eqb, ne-eqb}
 use lib.Bits.{bitXor}
 use lib.ListN.{length, getD, take, drop, set, length-append}
-use lib.Seq.{take-suc, take-suc-set, getD-take, sets-eq, take-at, length-take-le, take-all}
+use lib.Seq.{take-suc, take-suc-set, getD-take, getD-append-add, sets-eq, take-at, length-take-le, take-all}
 use Rattle.aes.specs.Cipher.{wordAt}
 use Rattle.aes.specs.KeyExpansion.{subWord, rotWord, xorWord, roundConstants, rcon, temp, schedule}
 use Rattle.aes.specs.Word.{bytes}
@@ -56,13 +56,27 @@ stored-is w k x h =
     let l : length (take k w ++ bytes x) ≡ k + 4 = length-append (take k w) (bytes x) ∙ ap (λ (m : ℕ). m + 4) (length-take-le k w (omega arith)) in
     rw (e₁, e₂, e₃, sets-eq (bytes x) w k h) (take-at (take k w ++ bytes x) (drop (k + 4) w) (k + 4) l)
 
-pub grown : (w key : List ℕ) (n x : ℕ) → length w ≡ 176 → n < 40 → take (4 * n + 16) w ≡ schedule 4 key n
-    → bytes x ≡ xorWord (wordAt w (4 + n - 4)) (temp 4 (4 + n) (wordAt w (4 + n - 1)))
-    → take (4 * (n + 1) + 16) (stored w (4 * n + 16) x) ≡ schedule 4 key (n + 1)
-unfolding schedule
-grown w key n x hw hn e ex =
-    let old : (i : ℕ) → i < n + 4 → wordAt w i ≡ wordAt (schedule 4 key n) i
-    = λ i h. sym (front (4 * n + 16) i w (omega arith)) ∙ ap (λ (l : List ℕ). wordAt l i) e in
-    let e₁ : 4 * (n + 1) + 16 ≡ 4 * n + 16 + 4 = omega arith in
-    rw (e₁, stored-is w (4 * n + 16) x (omega arith), ex, e, add-one n)
-    (ap₂ (λ (a b : List ℕ). schedule 4 key n ++ xorWord a (temp 4 (4 + n) b)) (old (4 + n - 4) (omega arith)) (old (4 + n - 1) (omega arith)))
+-- the word after whole words
+behind : (l : List ℕ) (x i : ℕ) → length l ≡ 4 * i → wordAt (l ++ bytes x) i ≡ bytes x
+behind l x i e =
+    let at : (r : ℕ) → getD (l ++ bytes x) (4 * i + r) 0 ≡ getD (bytes x) r 0
+    = λ r. ap (λ (n : ℕ). getD (l ++ bytes x) (n + r) 0) (sym e) ∙ getD-append-add l (bytes x) r 0 in
+    λ k. at 0 k ∷ at 1 k ∷ at 2 k ∷ at 3 k ∷ []
+
+-- a turn of the second loop: x, made of the word at hand, is stored and is the next one at hand
+module _ (w : List ℕ) (n x : ℕ) (hw : length w ≡ 176) (hn : n < 40) where
+  pub at-hand : bytes x ≡ wordAt (stored w (4 * n + 16) x) (n + 1 + 3)
+  at-hand =
+      let k = 4 * n + 16 in
+      sym (sym (front (k + 4) (n + 1 + 3) (stored w k x) (omega arith)) ∙ ap (λ (l : List ℕ). wordAt l (n + 1 + 3)) (stored-is w k x (omega arith))
+      ∙ behind (take k w) x (n + 1 + 3) (omega (arith, length-take-le k w (omega arith))))
+
+  pub grown : (key : List ℕ) (last : ℕ) → take (4 * n + 16) w ≡ schedule 4 key n → bytes last ≡ wordAt w (n + 3)
+      → bytes x ≡ xorWord (wordAt w (4 + n - 4)) (temp 4 (4 + n) (bytes last)) → take (4 * (n + 1) + 16) (stored w (4 * n + 16) x) ≡ schedule 4 key (n + 1)
+  unfolding schedule
+  grown key last e el ex =
+      let old : (i j : ℕ) → i ≡ j → i < n + 4 → wordAt w i ≡ wordAt (schedule 4 key n) j
+      = λ i j p h. sym (front (4 * n + 16) i w (omega arith)) ∙ ap₂ wordAt e p in
+      let e₁ : 4 * (n + 1) + 16 ≡ 4 * n + 16 + 4 = omega arith in
+      rw (e₁, stored-is w (4 * n + 16) x (omega arith), ex, e, add-one n)
+      (ap₂ (λ (a b : List ℕ). schedule 4 key n ++ xorWord a (temp 4 (4 + n) b)) (old (4 + n - 4) (4 + n - 4) refl (omega arith)) (el ∙ old (n + 3) (4 + n - 1) (omega arith) (omega arith)))

@@ -1,19 +1,21 @@
--- What the layers above may know of AES: the lengths of what it gives, and that octets give octets.
+-- What the layers above may know of AES: the lengths of what it gives, that octets give octets, and how its words are added.
 use mathlib.Core.Path.{_≡_, refl, _∙_}
 use mathlib.Core.Bool.{Bool, true, false, cond, _&&_}
-use mathlib.Core.List.{List}
+use mathlib.Core.List.{List, [], _∷_}
 use Prim.Native.Nat.{ℕ, zero, suc, _+_, _-_, _*_, _/_, _%_, _<_, _≤_}
 use native.Mathlib.Nat.{mod-lt, zero-lt-suc}
 use native.Mathlib.Omega.{arith}
-use lib.Bits.{xor-lt}
+use lib.Bits.{bitXor, xor-lt}
 use lib.Dec.{ltb, eqb, ltb→lt, lit<}
 use lib.ListN.{length, getD, length-append}
 use Rattle.octets.specs.Octets.{Octets, none, more}
 use Rattle.aes.specs.Field.{_⊕_, inverse}
 use Rattle.aes.specs.Cipher.{byteAt, word, wordAt, columns, affineBit, affine, sbox, subBytes, shiftRows, addRoundKey, rounds, cipher}
 use Rattle.aes.specs.KeyExpansion.{subWord, rotWord, xorWord, roundConstants, rcon, temp, schedule, keyExpansion, aes128}
+use Rattle.aes.specs.Word.{bytes}
 use Rattle.octets.proofs.Every.{every-at}
 use Rattle.octets.proofs.Octets.{octet-at, octets-from, octets-append}
+use Rattle.aes.proofs.Bytes.{bytes-xor}
 
 pub octet-⊕ : (a b : ℕ) → a < 256 → b < 256 → a ⊕ b < 256
 unfolding _⊕_
@@ -35,7 +37,7 @@ bit-affine : (b i : ℕ) → affineBit b i < 2
 unfolding affineBit
 bit-affine b i = mod-lt _ (zero-lt-suc 1)
 
-octet-sbox : (b : ℕ) → sbox b < 256
+pub octet-sbox : (b : ℕ) → sbox b < 256
 unfolding sbox affine
 octet-sbox b =
     let h : (i : ℕ) → affineBit (inverse b) i < 2 = bit-affine (inverse b) in
@@ -120,3 +122,9 @@ length-aes128 key block = length-cipher 10 (keyExpansion 4 10 key) block
 pub octets-aes128 : {key : List ℕ} (block : List ℕ) → Octets key → Octets (aes128 key block)
 unfolding aes128
 octets-aes128 block p = octets-cipher 10 block (octets-keyExpansion 4 10 p)
+
+-- XOR of two words in a u32 is XOR of their bytes
+pub bytes-sum : (x y : ℕ) → bytes (bitXor x y)
+    ≡ bitXor (x % 256) (y % 256) ∷ bitXor (x / 256 % 256) (y / 256 % 256) ∷ bitXor (x / 65536 % 256) (y / 65536 % 256) ∷ bitXor (x / 16777216) (y / 16777216) ∷ []
+unfolding _⊕_ xorWord
+bytes-sum = bytes-xor

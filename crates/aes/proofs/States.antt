@@ -4,7 +4,7 @@ use mathlib.Core.List.{List, [], _∷_, _++_}
 use Prim.Native.Nat.{ℕ, suc, _+_, _-_, _≤_}
 use native.Mathlib.Omega.{arith}
 use lib.Bits.{bitXor}
-use Rattle.aes.specs.Cipher.{subBytes, shiftRows, mixColumn, mixColumns, addRoundKey, rounds, cipher, columns, wordAt}
+use Rattle.aes.specs.Cipher.{subBytes, shiftRows, mixColumn, mixColumns, addRoundKey, rounds, cipher}
 use Rattle.aes.specs.KeyExpansion.{rotWord, xorWord}
 use Rattle.aes.specs.Word.{bytes, products}
 use Rattle.aes.proofs.Bytes.{added}
@@ -25,20 +25,27 @@ commute : (s : List ℕ) → subBytes (shiftRows s) ≡ shiftRows (subBytes s)
 unfolding subBytes shiftRows
 commute s = refl
 
-module _ (w block : List ℕ) where
-  -- the first AddRoundKey reads the block's columns
-  pub begun : {s l : List ℕ} → s ≡ addRoundKey w 0 l → l ≡ columns (wordAt block) → s ≡ rounds w block 0
-  unfolding rounds addRoundKey
-  begun p q = p ∙ ap (addRoundKey w 0) q
+-- a round and the last one, as the code makes them: k of m, m of l, l of s
+module _ (w s : List ℕ) {l m k : List ℕ} (n : ℕ) (shifts : l ≡ shiftRows s) (adds : k ≡ addRoundKey w n m) where
+  pub round-is : m ≡ mixColumns (subBytes l) → k ≡ addRoundKey w n (mixColumns (shiftRows (subBytes s)))
+  round-is mixes = adds ∙ rw (mixes, shifts, commute)
 
-  pub again : {s l m k : List ℕ} (n : ℕ) → 1 ≤ n → s ≡ rounds w block (n - 1) → l ≡ shiftRows s → m ≡ mixColumns (subBytes l) → k ≡ addRoundKey w n m
+  pub last-is : m ≡ subBytes l → k ≡ addRoundKey w n (shiftRows (subBytes s))
+  last-is subs = adds ∙ rw (subs, shifts, commute)
+
+module _ (w block : List ℕ) where
+  pub begun : {s : List ℕ} → s ≡ addRoundKey w 0 block → s ≡ rounds w block 0
+  unfolding rounds
+  begun p = p
+
+  pub again : {s k : List ℕ} (n : ℕ) → 1 ≤ n → s ≡ rounds w block (n - 1) → k ≡ addRoundKey w n (mixColumns (shiftRows (subBytes s)))
       → k ≡ rounds w block (n + 1 - 1)
   unfolding rounds
-  again n h p q r t =
+  again n h p q =
       let e : n + 1 - 1 ≡ suc (n - 1) = omega arith in
       let e′ : n ≡ suc (n - 1) = omega arith in
-      t ∙ rw (r, q, p, commute, e) (ap (λ (i : ℕ). addRoundKey w i (mixColumns (shiftRows (subBytes (rounds w block (n - 1)))))) e′)
+      q ∙ rw (p, e) (ap (λ (i : ℕ). addRoundKey w i (mixColumns (shiftRows (subBytes (rounds w block (n - 1)))))) e′)
 
-  pub ended : {s l m k : List ℕ} (n : ℕ) → n ≡ 10 → s ≡ rounds w block (n - 1) → l ≡ shiftRows s → m ≡ subBytes l → k ≡ addRoundKey w 10 m → k ≡ cipher 10 w block
+  pub ended : {s k : List ℕ} (n : ℕ) → n ≡ 10 → s ≡ rounds w block (n - 1) → k ≡ addRoundKey w 10 (shiftRows (subBytes s)) → k ≡ cipher 10 w block
   unfolding cipher
-  ended n e p q r t = t ∙ rw (r, q, p, commute, e)
+  ended n e p q = q ∙ rw (p, e)

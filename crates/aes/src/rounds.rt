@@ -1,25 +1,24 @@
 // FIPS 197, section 5.1: the rounds, on a state of four columns.
 use crate::column::mix_word;
 use crate::column::sub_word;
-use crate::table::table;
 use crate::word::pack;
 use crate::word::word_at;
 ghost use mathlib.Core.Path.{_≡_};
 ghost use mathlib.Core.List.{[], _∷_};
 ghost use Prim.Native.Nat.{_/_, _%_, _≤_};
-ghost use Rattle.aes.specs.Cipher.{columns, wordAt, subBytes, shiftRows, mixColumns, addRoundKey, cipher};
-ghost use Rattle.aes.specs.Word.{bytes, bytesOf, SBox};
+ghost use Rattle.aes.specs.Cipher.{subBytes, shiftRows, mixColumns, addRoundKey, cipher};
+ghost use Rattle.aes.specs.Word.{bytes, bytesOf, Products};
 
 // The four columns.
-pub(crate) struct State {
-    a: u32,
-    b: u32,
-    c: u32,
-    d: u32,
+pub struct State {
+    pub a: u32,
+    pub b: u32,
+    pub c: u32,
+    pub d: u32,
 }
 
-fn load(block: [u8; 16]) -> State
-    ensures { λ r. ⌜ bytesOf r ≡ columns (wordAt block) ⌝ }
+pub fn load(block: [u8; 16]) -> State
+    ensures { λ r. ⌜ bytesOf r ≡ block ⌝ }
 {
     State {
         a: pack(block[0], block[1], block[2], block[3]),
@@ -29,7 +28,7 @@ fn load(block: [u8; 16]) -> State
     }
 }
 
-fn store(s: State) -> [u8; 16]
+pub fn store(s: State) -> [u8; 16]
     ensures { λ r. ⌜ r ≡ bytesOf s ⌝ }
 {
     let a = s.a;
@@ -95,9 +94,8 @@ fn shift_rows(s: State) -> State
     }
 }
 
-fn sub_bytes(t: &[u8; 256], s: State) -> State
-    requires { ⌜ SBox (now t) ⌝ }
-    ensures { λ r. ⌜ bytesOf r ≡ subBytes (bytesOf s) ⌝ }
+fn sub_bytes(t: &[u64; 256], s: State) -> State
+    ensures { λ r. ⌜ (Products (now (t .entry)) → bytesOf r ≡ subBytes (bytesOf s)) ⌝ }
 {
     State {
         a: sub_word(t, s.a),
@@ -108,9 +106,8 @@ fn sub_bytes(t: &[u8; 256], s: State) -> State
 }
 
 // SubBytes and MixColumns.
-fn mix_columns(t: &[u8; 256], s: State) -> State
-    requires { ⌜ SBox (now t) ⌝ }
-    ensures { λ r. ⌜ bytesOf r ≡ mixColumns (subBytes (bytesOf s)) ⌝ }
+fn mix_columns(t: &[u64; 256], s: State) -> State
+    ensures { λ r. ⌜ (Products (now (t .entry)) → bytesOf r ≡ mixColumns (subBytes (bytesOf s))) ⌝ }
 {
     State {
         a: mix_word(t, s.a),
@@ -120,17 +117,59 @@ fn mix_columns(t: &[u8; 256], s: State) -> State
     }
 }
 
-// Cipher, of ten rounds, under the key schedule w. ShiftRows comes before SubBytes, with which it
-// commutes.
-pub fn encrypt(w: &[u8; 176], block: [u8; 16]) -> [u8; 16]
-    ensures { λ r. ⌜ r ≡ cipher 10 (now (w .entry)) block ⌝ }
+// Round n. ShiftRows comes before SubBytes, with which it commutes.
+fn round(t: &[u64; 256], w: &[u8; 176], n: usize, s: State) -> State
+    requires { ⌜ n ≤ 10 ⌝ }
+    ensures { λ r. ⌜
+        (Products (now (t .entry)) → bytesOf r ≡ addRoundKey (now (w .entry)) n (mixColumns (shiftRows (subBytes (bytesOf s))))) ⌝ }
 {
-    let t = table();
-    let mut s = add_round_key(w, 0, load(block));
+    add_round_key(w, n, mix_columns(t, shift_rows(s)))
+}
+
+// The tenth mixes no columns.
+fn last_round(t: &[u64; 256], w: &[u8; 176], s: State) -> State
+    ensures { λ r. ⌜
+        (Products (now (t .entry)) → bytesOf r ≡ addRoundKey (now (w .entry)) 10 (shiftRows (subBytes (bytesOf s)))) ⌝ }
+{
+    add_round_key(w, 10, sub_bytes(t, shift_rows(s)))
+}
+
+// Cipher, of ten rounds, under the key schedule w. Where t is not the table of products nothing is said of what it gives.
+pub fn encrypt(t: &[u64; 256], w: &[u8; 176], block: State) -> State
+    ensures { λ r. ⌜ (Products (now (t .entry)) → bytesOf r ≡ cipher 10 (now (w .entry)) (bytesOf block)) ⌝ }
+{
+    let mut s = add_round_key(w, 0, block);
     let mut n: usize = 1;
     while n < 10 {
-        s = add_round_key(w, n, mix_columns(&t, shift_rows(s)));
+        s = round(t, w, n, s);
         n += 1;
     }
-    store(add_round_key(w, 10, sub_bytes(&t, shift_rows(s))))
+    last_round(t, w, s)
+}
+
+// Two blocks, encrypted side by side.
+pub struct Two {
+    pub first: State,
+    pub second: State,
+}
+
+// Cipher of two blocks in one loop of rounds: while one waits for the table the other is worked on.
+pub fn encrypt_two(t: &[u64; 256], w: &[u8; 176], first: State, second: State) -> Two
+    ensures { λ r. ⌜ (Products (now (t .entry)) → bytesOf (r .first) ≡ cipher 10 (now (w .entry)) (bytesOf first)) ⌝ }
+    ensures { λ r. ⌜ (Products (now (t .entry)) → bytesOf (r .second) ≡ cipher 10 (now (w .entry)) (bytesOf second)) ⌝ }
+{
+    let mut s = add_round_key(w, 0, first);
+    let mut u = add_round_key(w, 0, second);
+    let mut i: usize = 1;
+    while i < 10 {
+        s = round(t, w, i, s);
+        u = round(t, w, i, u);
+        i += 1;
+    }
+    let p = last_round(t, w, s);
+    let q = last_round(t, w, u);
+    Two {
+        first: p,
+        second: q,
+    }
 }

@@ -14,15 +14,24 @@ fn print_schedule(w: [u8; 176]) {
     }
 }
 
-fn print_ciphertext(appendix: &[u8], key: [u8; 16], plaintext: [u8; 16]) {
-    let w = aes::expand(key);
-    let ciphertext = aes::encrypt(&w, plaintext);
+// The block encrypted by itself, and as the first and the second of two.
+fn print_ciphertext(appendix: &[u8], t: &[u64; 256], key: [u8; 16], plaintext: [u8; 16]) {
+    let w = aes::expand(t, key);
+    let block = aes::load(plaintext);
+    let two = aes::encrypt_two(t, &w, block, block);
     show::text(appendix);
-    show::octets(&ciphertext);
+    show::octets(&aes::store(aes::encrypt(t, &w, block)));
+    show::text(b" ");
+    show::octets(&aes::store(two.first));
+    show::text(b" ");
+    show::octets(&aes::store(two.second));
     show::text(b"\n");
 }
 
 fn main() {
+    let mut t = [0u64; 256];
+    aes::fill_products(&mut t);
+
     // Appendices A.1 and B: one key.
     let key: [u8; 16] = [
         0x2b,
@@ -42,7 +51,7 @@ fn main() {
         0x4f,
         0x3c,
     ];
-    print_schedule(aes::expand(key));
+    print_schedule(aes::expand(&t, key));
     let plaintext: [u8; 16] = [
         0x32,
         0x43,
@@ -61,7 +70,7 @@ fn main() {
         0x07,
         0x34,
     ];
-    print_ciphertext(b"B ", key, plaintext);
+    print_ciphertext(b"B ", &t, key, plaintext);
 
     // Appendix C.1.
     let counting: [u8; 16] = [
@@ -100,5 +109,5 @@ fn main() {
         0xee,
         0xff,
     ];
-    print_ciphertext(b"C.1 ", counting, doubled);
+    print_ciphertext(b"C.1 ", &t, counting, doubled);
 }

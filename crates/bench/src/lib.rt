@@ -3,6 +3,7 @@ use ccm::Outcome;
 ghost use mathlib.Core.Path.{_≡_};
 ghost use Rattle.aes.specs.Cipher.{cipher};
 ghost use Rattle.aes.specs.KeyExpansion.{keyExpansion, aes128};
+ghost use Rattle.aes.specs.Word.{Products};
 ghost use Rattle.ccm.specs.Ccm.{sealed, opened};
 ghost use Rattle.ccm.specs.Room.{fitting, outcome, written};
 ghost use Rattle.bench.specs.Numbers.{number};
@@ -13,18 +14,25 @@ mod pictures; // pictures.rt: splitting and joining
 mod tables; // tables.rt: sealing and opening through a table
 
 #[no_mangle]
-pub extern "C" fn bench_aes_expand(key: &[u8; 16], w: &mut [u8; 176])
-    ensures { λ _. ⌜ now (w .exit) ≡ keyExpansion 4 10 (now (key .entry)) ⌝ }
+pub extern "C" fn bench_aes_fill(t: &mut [u64; 256])
+    ensures { λ _. ⌜ Products (now (t .exit)) ⌝ }
 {
-    *w = aes::expand(*key);
+    aes::fill_products(t);
 }
 
 #[no_mangle]
-pub extern "C" fn bench_aes_encrypt(w: &[u8; 176], block: &mut [u8; 16])
-    ensures { λ _. ⌜ now (block .exit) ≡ cipher 10 (now (w .entry)) (now (block .entry)) ⌝ }
+pub extern "C" fn bench_aes_expand(t: &[u64; 256], key: &[u8; 16], w: &mut [u8; 176])
+    ensures { λ _. ⌜ (Products (now (t .entry)) → now (w .exit) ≡ keyExpansion 4 10 (now (key .entry))) ⌝ }
+{
+    *w = aes::expand(t, *key);
+}
+
+#[no_mangle]
+pub extern "C" fn bench_aes_encrypt(t: &[u64; 256], w: &[u8; 176], block: &mut [u8; 16])
+    ensures { λ _. ⌜ (Products (now (t .entry)) → now (block .exit) ≡ cipher 10 (now (w .entry)) (now (block .entry))) ⌝ }
 {
     let b = *block;
-    *block = aes::encrypt(w, b);
+    *block = aes::store(aes::encrypt(t, w, aes::load(b)));
 }
 
 fn numbered(o: Outcome) -> u64

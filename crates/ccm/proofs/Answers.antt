@@ -1,12 +1,12 @@
 -- Which outcome is right where, and what it leaves in the output.
 use mathlib.Core.Path.{_≡_, refl, sym, ap, ap₂, _∙_}
-use mathlib.Core.Bool.{Bool, true, false}
+use mathlib.Core.Bool.{Bool, true, false, cond}
 use mathlib.Core.List.{List, _++_, append-assoc}
 use mathlib.Core.Option.{Option, none, some}
 use Prim.Native.Nat.{ℕ, _+_, _-_, _≤_, _<_}
 use native.Mathlib.Omega.{arith}
-use lib.ListN.{length, take, drop, length-take, length-drop}
-use lib.Seq.{take-all, take-at, drop-at, drop-drop}
+use lib.ListN.{length, take, drop, length-take}
+use lib.Seq.{take-at, drop-at, drop-drop}
 use borrow.Author.Tests.{le-leb, lt-leb}
 use Rattle.octets.specs.Octets.{same}
 use Rattle.octets.specs.Options.{when}
@@ -24,9 +24,6 @@ module _ (o : Option (List ℕ)) (room : List ℕ) where
 
   done : (t after : List ℕ) (n : ℕ) → fitting room o ≡ some t → n ≡ length t → after ≡ t ++ drop n room → Answered o room (Done n) after
   done t after n e l is = (ap Done l ∙ ap outcome (sym e), is ∙ ap (λ (k : ℕ). t ++ drop k room) l ∙ ap (written room) (sym e))
-
-less-none : (n : ℕ) → n - 0 ≡ n
-less-none n = omega arith
 
 -- a text that the room does not hold
 small : (b : Bool) (t room : List ℕ) → length room < length t → fitting room (when b (some t)) ≡ none
@@ -71,7 +68,7 @@ module _ (E : List ℕ → List ℕ) (hE : BlockCipher E) (M : ℕ) (hM : M ≤ 
       unfolding opened
       open-limits h = refused (opened E M N a t) room (rw (le-leb M (length t) long, h))
 
-      pub length-opened : length (masked E N 1 (take (length t - M) t)) ≡ length t - M
+      length-opened : length (masked E N 1 (take (length t - M) t)) ≡ length t - M
       length-opened = length-masked E hE N 1 (take (length t - M) t) ∙ omega (arith, length-take (length t - M) t)
 
       module _ (limits : inLimits (length a) (length t - M) ≡ true) where
@@ -82,29 +79,30 @@ module _ (E : List ℕ → List ℕ) (hE : BlockCipher E) (M : ℕ) (hM : M ≤ 
             refused (opened E M N a t) room
             (rw (le-leb M (length t) long, limits) (small (same (U E M N a m) (drop (length t - M) t)) m room (omega (arith, length-opened))))
 
-        -- the codes compared and the message ys written as the code does it
-        module _ (r : Bool) (is : r ≡ same (U E M N a (masked E N 1 (take (length t - M - 0) t))) (take (length t - (length t - M)) (drop (length t - M) t))) where
-          compared : r ≡ same (U E M N a (masked E N 1 (take (length t - M) t))) (drop (length t - M) t)
-          compared =
-              is ∙ ap₂ (λ (k : ℕ) (l : List ℕ). same (U E M N a (masked E N 1 (take k t))) l) (less-none (length t - M))
-              (take-all (length t - (length t - M)) (drop (length t - M) t) (omega (arith, length-drop (length t - M) t)))
-
+        -- the code of the message found right or not
+        module _ (r : Bool) (is : r ≡ same (U E M N a (masked E N 1 (take (length t - M) t))) (drop (length t - M) t)) where
           pub open-wrong : r ≡ false → Answered (opened E M N a t) room Refused room
           unfolding opened
-          open-wrong w = refused (opened E M N a t) room (rw (le-leb M (length t) long, limits, sym compared ∙ w))
+          open-wrong w = refused (opened E M N a t) room (rw (le-leb M (length t) long, limits, sym is ∙ w))
 
           right : length t - M ≤ length room → r ≡ true → fitting room (opened E M N a t) ≡ some (masked E N 1 (take (length t - M) t))
           unfolding opened
           right k w =
               let m = masked E N 1 (take (length t - M) t) in
-              rw (le-leb M (length t) long, limits, sym compared ∙ w, le-leb (length m) (length room) (omega (arith, length-opened)))
+              rw (le-leb M (length t) long, limits, sym is ∙ w, le-leb (length m) (length room) (omega (arith, length-opened)))
 
-          pub open-right : length t - M ≤ length room → r ≡ true → (ys : List ℕ) → ys ≡ masked E N 1 (take (length t - M - 0) t)
-              → Answered (opened E M N a t) room (Done (length t - M)) (ys ++ drop (length t - M - 0) room)
-          open-right k w ys e =
-              let e₀ = less-none (length t - M) in
-              done (opened E M N a t) room (masked E N 1 (take (length t - M) t)) (ys ++ drop (length t - M - 0) room) (length t - M) (right k w) (sym length-opened)
-              (ap₂ (λ (l : List ℕ) (j : ℕ). l ++ drop j room) (e ∙ ap (λ (j : ℕ). masked E N 1 (take j t)) e₀) e₀)
+          pub open-right : length t - M ≤ length room → r ≡ true
+              → Answered (opened E M N a t) room (Done (length t - M)) (masked E N 1 (take (length t - M) t) ++ drop (length t - M) room)
+          open-right k w =
+              let m = masked E N 1 (take (length t - M) t) in
+              done (opened E M N a t) room m (m ++ drop (length t - M) room) (length t - M) (right k w) (sym length-opened) refl
+
+-- what is left where a test failed, and where it held
+pub left-kept : (r : Bool) (m room left : List ℕ) → r ≡ false → left ≡ cond r m room → left ≡ room
+left-kept r m room left w e = e ∙ ap (λ (b : Bool). cond b m room) w
+
+pub left-put : (r : Bool) (m room left : List ℕ) → r ≡ true → left ≡ cond r m room → left ≡ m
+left-put r m room left w e = e ∙ ap (λ (b : Bool). cond b m room) w
 
 -- what holds with the cipher F that the code has holds with E
 pub by-cipher : (F E : List ℕ → List ℕ) → F ≡ E → (M : ℕ) (N a room t : List ℕ) (r : Outcome) (after : List ℕ)

@@ -2,26 +2,29 @@
 mod limits; // limits.rt: the limits, and the code's length
 mod blocks; // blocks.rt: blocks of 16 octets
 mod chain; // chain.rt: section 2.2, authentication
-mod stream; // stream.rt: section 2.3, encryption
-mod code; // code.rt: the code of a message, in clear or encrypted
+mod stream; // stream.rt: section 2.3, encryption, with the chain beside it
 
-use code::code_of;
-use code::verified;
+use aes::State;
+use chain::begin;
 pub use limits::CODE_OCTETS;
+use limits::HELD;
 use limits::LEAST_DATA;
 use limits::MOST_DATA;
 use limits::MOST_MESSAGE;
-use limits::MOST_SHORT;
-use stream::mask;
+use stream::code_of;
+use stream::pass;
+use stream::verified;
+ghost use mathlib.Core.Bool.{cond};
 ghost use mathlib.Core.Path.{_≡_};
 ghost use mathlib.Core.List.{_++_};
-ghost use Prim.Native.Nat.{_+_, _≤_};
+ghost use Prim.Native.Nat.{_+_, _-_, _≤_, _<_};
 ghost use lib.ListN.{length, drop};
 ghost use Rattle.aes.specs.Cipher.{cipher};
 ghost use Rattle.aes.specs.KeyExpansion.{aes128};
-ghost use Rattle.ccm.specs.Limits.{mostData, mostMessage, codeOctets, mostShort};
+ghost use Rattle.aes.specs.Word.{bytesOf, Products};
+ghost use Rattle.ccm.specs.Limits.{mostData, mostMessage, codeOctets, held};
 ghost use Rattle.ccm.specs.Ccm.{masked, U, inLimits, sealed, opened};
-ghost use Rattle.ccm.specs.Room.{fitting, outcome, written, Answered, Openable};
+ghost use Rattle.ccm.specs.Room.{fitting, outcome, written, messageFrom, rightFrom, Openable};
 
 pub enum Outcome {
     // The octets written.
@@ -42,15 +45,16 @@ fn in_limits(a: usize, m: usize) -> bool
 }
 
 // The encrypted message and its code into the front of out.
-fn put(w: &[u8; 176], nonce: [u8; 13], aad: &[u8], body: &[u8], out: &mut [u8])
-    requires { ⌜ (length (now aad) ≤ mostData) × (length (now body) ≤ mostMessage) × (length (now body) + codeOctets ≤ length (now out)) ⌝ }
+fn put(t: &[u64; 256], w: &[u8; 176], nonce: [u8; 13], aad: &[u8], body: &[u8], out: &mut [u8])
+    requires { ⌜ (length (now aad) ≤ mostData) × (length (now body) ≤ mostMessage) × (length (now body) + codeOctets ≤ length (now out)) × Products (now t) ⌝ }
     ensures { λ _. ⌜
         now (out .exit) ≡ (masked (cipher 10 (now (w .entry))) nonce 1 (now (body .entry)) ++ U (cipher 10 (now (w .entry))) codeOctets nonce (now (aad .entry)) (now (body .entry)))
         ++ drop (length (now (body .entry)) + codeOctets) (now (out .entry)) ⌝ }
 {
     let n = body.len();
-    let code = code_of(w, nonce, aad, body);
-    mask(w, nonce, body, &mut out[0..n]);
+    let first = begin(t, w, nonce, aad, n);
+    let last = pass(t, w, nonce, 1, first, body, false, &mut out[0..n]);
+    let code = code_of(t, w, nonce, last);
     bytes::copy(&code[0..CODE_OCTETS], &mut out[n..n + CODE_OCTETS]);
 }
 
@@ -68,40 +72,83 @@ pub fn seal(key: [u8; 16], nonce: [u8; 13], aad: &[u8], body: &[u8], out: &mut [
     if out.len() < n + CODE_OCTETS {
         return Outcome::Refused;
     }
-    let w = aes::expand(key);
-    put(&w, nonce, aad, body, out);
+    let mut t = [0u64; 256];
+    aes::fill_products(&mut t);
+    let w = aes::expand(&t, key);
+    put(&t, &w, nonce, aad, body, out);
     Outcome::Done(n + CODE_OCTETS)
 }
 
-// Opens a short message in one pass over the key stream: it is decrypted into an array, and copied once its code is found right.
-fn open_short(w: &[u8; 176], nonce: [u8; 13], aad: &[u8], text: &[u8], out: &mut [u8]) -> Outcome
-    requires { ⌜ Openable mostShort (now aad) (now text) (now out) ⌝ }
+// Opens the last part of a text, whose first block has the counter i, where X stands: says whether the code is right, and writes
+// the message if it is. Until then it waits in an array.
+fn open_last(
+    t: &[u64; 256],
+    w: &[u8; 176],
+    nonce: [u8; 13],
+    i: usize,
+    x: State,
+    text: &[u8],
+    out: &mut [u8],
+) -> bool
+    requires { ⌜ Openable i (now text) (now out) × (length (now text) ≤ held + codeOctets) × Products (now t) ⌝ }
+    ensures { λ r. ⌜ r ≡ rightFrom (cipher 10 (now (w .entry))) nonce i (bytesOf x) (now (text .entry)) ⌝ }
     ensures { λ r. ⌜
-        Answered (opened (cipher 10 (now (w .entry))) codeOctets nonce (now (aad .entry)) (now (text .entry))) (now (out .entry)) r (now (out .exit)) ⌝ }
+        now (out .exit) ≡ cond r (messageFrom (cipher 10 (now (w .entry))) nonce i (now (text .entry)) ++ drop (length (now (text .entry)) - codeOctets) (now (out .entry))) (now (out .entry)) ⌝ }
 {
     let n = text.len() - CODE_OCTETS;
-    let mut message = [0u8; MOST_SHORT];
-    mask(w, nonce, &text[0..n], &mut message[0..n]);
-    let code = code_of(w, nonce, aad, &message[0..n]);
-    if !octets::equal(&code[0..CODE_OCTETS], &text[n..]) {
-        return Outcome::Refused;
+    let mut part = [0u8; HELD];
+    let last = pass(t, w, nonce, i, x, &text[0..n], true, &mut part[0..n]);
+    if !verified(t, w, nonce, last, &text[n..]) {
+        return false;
     }
-    bytes::copy(&message[0..n], &mut out[0..n]);
-    Outcome::Done(n)
+    bytes::copy(&part[0..n], &mut out[0..n]);
+    true
 }
 
-// Opens a message of any length in two passes over the key stream, with no copy of it: one for the code, and one that writes.
-fn open_long(w: &[u8; 176], nonce: [u8; 13], aad: &[u8], text: &[u8], out: &mut [u8]) -> Outcome
-    requires { ⌜ Openable mostMessage (now aad) (now text) (now out) ⌝ }
+// The same of a part that is not the last: it waits until those after it were opened.
+fn open_first(
+    t: &[u64; 256],
+    w: &[u8; 176],
+    nonce: [u8; 13],
+    i: usize,
+    x: State,
+    text: &[u8],
+    out: &mut [u8],
+) -> bool
+    requires { ⌜ Openable i (now text) (now out) × (held + codeOctets < length (now text)) × Products (now t) ⌝ }
+    ensures { λ r. ⌜ r ≡ rightFrom (cipher 10 (now (w .entry))) nonce i (bytesOf x) (now (text .entry)) ⌝ }
     ensures { λ r. ⌜
-        Answered (opened (cipher 10 (now (w .entry))) codeOctets nonce (now (aad .entry)) (now (text .entry))) (now (out .entry)) r (now (out .exit)) ⌝ }
+        now (out .exit) ≡ cond r (messageFrom (cipher 10 (now (w .entry))) nonce i (now (text .entry)) ++ drop (length (now (text .entry)) - codeOctets) (now (out .entry))) (now (out .entry)) ⌝ }
 {
-    let n = text.len() - CODE_OCTETS;
-    if !verified(w, nonce, aad, &text[0..n], &text[n..]) {
-        return Outcome::Refused;
+    let mut part = [0u8; HELD];
+    let next = pass(t, w, nonce, i, x, &text[0..HELD], true, &mut part);
+    let after = i + HELD / 16;
+    if !open_from(t, w, nonce, after, next, &text[HELD..], &mut out[HELD..]) {
+        return false;
     }
-    mask(w, nonce, &text[0..n], &mut out[0..n]);
-    Outcome::Done(n)
+    bytes::copy(&part, &mut out[0..HELD]);
+    true
+}
+
+// The same of a text of any length: each part of the message has a frame of the stack of its own, so that a short one takes little.
+fn open_from(
+    t: &[u64; 256],
+    w: &[u8; 176],
+    nonce: [u8; 13],
+    i: usize,
+    x: State,
+    text: &[u8],
+    out: &mut [u8],
+) -> bool
+    requires { ⌜ Openable i (now text) (now out) × Products (now t) ⌝ }
+    ensures { λ r. ⌜ r ≡ rightFrom (cipher 10 (now (w .entry))) nonce i (bytesOf x) (now (text .entry)) ⌝ }
+    ensures { λ r. ⌜
+        now (out .exit) ≡ cond r (messageFrom (cipher 10 (now (w .entry))) nonce i (now (text .entry)) ++ drop (length (now (text .entry)) - codeOctets) (now (out .entry))) (now (out .entry)) ⌝ }
+{
+    if text.len() <= HELD + CODE_OCTETS {
+        return open_last(t, w, nonce, i, x, text, out);
+    }
+    open_first(t, w, nonce, i, x, text, out)
 }
 
 // Opens text with nonce and aad into the front of out; the rest of out is kept. A refusal writes nothing, and nothing is
@@ -122,9 +169,12 @@ pub fn open(key: [u8; 16], nonce: [u8; 13], aad: &[u8], text: &[u8], out: &mut [
     if out.len() < n {
         return Outcome::Refused;
     }
-    let w = aes::expand(key);
-    if n <= MOST_SHORT {
-        return open_short(&w, nonce, aad, text, out);
+    let mut t = [0u64; 256];
+    aes::fill_products(&mut t);
+    let w = aes::expand(&t, key);
+    let first = begin(&t, &w, nonce, aad, n);
+    if !open_from(&t, &w, nonce, 1, first, text, out) {
+        return Outcome::Refused;
     }
-    open_long(&w, nonce, aad, text, out)
+    Outcome::Done(n)
 }

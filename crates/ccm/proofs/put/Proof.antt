@@ -1,5 +1,5 @@
 -- The masked message and then the code stand in the front of out.
-use mathlib.Core.Path.{_≡_, ap, ap₂, _∙_}
+use mathlib.Core.Path.{_≡_, refl, ap, ap₂, _∙_}
 use mathlib.Core.List.{List, _++_}
 use Prim.Native.Nat.{ℕ, _-_, _+_}
 use native.Mathlib.Omega.{arith}
@@ -10,6 +10,7 @@ use Rattle.aes.specs.Cipher.{cipher}
 use Rattle.aes.proofs.Laws.{length-cipher}
 use Rattle.ccm.specs.Limits.{codeOctets}
 use Rattle.ccm.proofs.Splitting.{length-masked}
+use Rattle.ccm.proofs.Codes.{code-is}
 use Rattle.ccm.proofs.Answers.{put-both}
 use Rattle.ccm.proofs.put.Statement.{statement}
 use Rattle.ccm.proofs.put.Tie as tie
@@ -17,22 +18,23 @@ use Rattle.ccm.proofs.put.Tie as tie
 returns : tie.Need-returns
 returns c =
     let copied = c .before .before in
-    let lent = copied .before .before .before in
-    let made = lent .before .before .before in
-    let coded = made .before .before in
-    let a = coded .before .before .before .before .args in
+    let coded = copied .before .before .before .before in
+    let passed = coded .before .before .before in
+    let begun = passed .before .before in
+    let a = begun .before .before .before .before .args in
     let E = cipher 10 (a .w .now) in
     let out = a .out .now in
     let m = a .body .now in
     let n = length m in
-    let ys = made .mask .last .1 .1 .1 .0 in
+    let ys = passed .pass .last .1 .1 .1 .1 .1 .1 .1 .0 in
     let zs = copied .copy .last .1 .0 in
-    let ly : length ys ≡ n = ap length (made .mask .ensures) ∙ length-masked E (length-cipher 10 (a .w .now)) (a .nonce) 1 m in
+    let ly : length ys ≡ n = ap length (passed .pass .ensures .1) ∙ length-masked E (length-cipher 10 (a .w .now)) (a .nonce) 1 m in
     let e₀ : n - 0 ≡ n = omega arith in
     let eₘ : n + codeOctets - n ≡ codeOctets = omega arith in
+    let code = code-is E codeOctets (a .nonce) (a .aad .now) m _ _ _ n refl (begun .begin .ensures) (passed .pass .ensures .0) (coded .code-of .ensures) in
     ap₂ (λ (j k : ℕ). take n (ys ++ drop j out) ++ (zs ++ drop k (drop n (ys ++ drop j out)))) e₀ eₘ
     ∙ put-both out ys zs n codeOctets ly
-    ∙ ap₂ (λ (p q : List ℕ). (p ++ q) ++ drop (n + codeOctets) out) (made .mask .ensures) (copied .copy .ensures .1 ∙ laid-all _ _ (simp length-take (omega arith)) ∙ coded .code-of .ensures)
+    ∙ ap₂ (λ (p q : List ℕ). (p ++ q) ++ drop (n + codeOctets) out) (passed .pass .ensures .1) (copied .copy .ensures .1 ∙ laid-all _ _ (simp length-take (omega arith)) ∙ code)
 
 pub put-spec : {M : Type 1} → statement M
 put-spec =
@@ -42,6 +44,7 @@ put-spec =
     (λ c. search needs)
     (λ c. search needs)
     (λ c. search needs)
+    (λ c κs. search needs)
     (λ c κs. search needs)
     (λ c. search needs)
     (λ c. search needs)

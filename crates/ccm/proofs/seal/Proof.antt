@@ -31,16 +31,18 @@ returns-2 c =
 
 put-requires : tie.Need-put-requires
 put-requires c κs =
-    let c₂ = c .before .before .before in
+    let filled = c .before .before .before .before .before in
+    let c₂ = filled .before .before in
     let c₁ = c₂ .before in
     let h = in-limits _ _ (sym (c₁ .before .in-limits .ensures) ∙ not-false _ (c₁ .if1 .left)) in
-    (h .1, h .2, c₂ .if2 .left)
+    (h .1, h .2, c₂ .if2 .left, filled .fill-products .ensures)
 
 returns-3 : tie.Need-returns-3
 returns-3 c =
     let written = c .before .before in
-    let made = written .before .before .before in
-    let fits = made .before in
+    let made = written .before .before .before .before in
+    let filled = made .before .before in
+    let fits = filled .before .before in
     let limited = fits .before in
     let asked = limited .before in
     let a = asked .before .before .before .before .args in
@@ -48,7 +50,7 @@ returns-3 c =
     let A = a .aad .now in
     let m = a .body .now in
     let out = a .out .now in
-    let cipher-is = ap (cipher 10) (made .expand .ensures) ∙ sym (aes128-is (a .key)) in
+    let cipher-is = ap (cipher 10) (made .expand .ensures (filled .fill-products .ensures)) ∙ sym (aes128-is (a .key)) in
     seal-done (aes128 (a .key)) (length-aes128 (a .key)) codeOctets (lit≤ tt) N A out m
     (sym (asked .in-limits .ensures) ∙ not-false _ (limited .if1 .left)) (fits .if2 .left) _
     (written .put .ensures ∙ ap (λ (F : List ℕ → List ℕ). (masked F N 1 m ++ U F codeOctets N A m) ++ drop (length m + codeOctets) out) cipher-is)
@@ -61,6 +63,7 @@ seal-spec =
     returns
     (λ c. search needs)
     returns-2
+    (λ c κs. search needs)
     (λ c κs. search needs)
     put-requires
     (λ c. search needs)

@@ -1,40 +1,33 @@
 -- Before turn n the state is the standard's after n - 1 rounds, whatever the block was.
-use mathlib.Core.Path.{_≡_, _∙_}
+use mathlib.Core.Path.{_≡_}
 use mathlib.Core.List.{List}
 use Prim.Native.Nat.{ℕ, _≤_, _-_}
 use native.Mathlib.Omega.{arith}
 use borrow.Author.Needs.{needs}
 use Rattle.aes.specs.Cipher.{rounds}
-use Rattle.aes.specs.Word.{bytesOf}
+use Rattle.aes.specs.Word.{bytesOf, Products}
 use Rattle.aes.proofs.States.{begun, again, ended}
 use Rattle.aes.proofs.rounds.encrypt.Statement.{statement}
 use Rattle.aes.proofs.rounds.encrypt.Tie as tie
 
 abbrev Inv-loop : tie.InvT-loop
-Inv-loop w t s₀ n₀ s n = (1 ≤ n) × (n ≤ 10) × ((b : List ℕ) → bytesOf s₀ ≡ rounds w b 0 → bytesOf s ≡ rounds w b (n - 1))
+Inv-loop t w s₀ n₀ s n = (1 ≤ n) × (n ≤ 10) × (Products t → (b : List ℕ) → bytesOf s₀ ≡ rounds w b 0 → bytesOf s ≡ rounds w b (n - 1))
 
 abbrev μ-loop : tie.MeasureT-loop
-μ-loop w t s₀ n₀ s n = 10 - n
+μ-loop t w s₀ n₀ s n = 10 - n
 
 loop-holds : tie.Need-loop-holds Inv-loop μ-loop
-loop-holds c = (omega arith, omega arith, λ b e. e)
+loop-holds c = (omega arith, omega arith, λ h b e. e)
 
 loop-again : tie.Need-loop-again Inv-loop μ-loop
 loop-again c =
-    let c₂ = c .before in
-    let c₁ = c₂ .before in
-    let p = c₁ .before .before .before .loop in
-    (omega arith, omega arith, λ b e. again _ b (p .n) (p .inv .0) (p .inv .2 b e) (c₁ .shift-rows .ensures) (c₂ .mix-columns .ensures) (c .add-round-key2 .ensures))
+    let p = c .before .before .loop in
+    (omega arith, omega arith, λ h b e. again _ b (p .n) (p .inv .0) (p .inv .2 h b e) (c .round .ensures h))
 
 returns : tie.Need-returns Inv-loop μ-loop
-returns c =
-    let c₃ = c .before in
-    let c₂ = c₃ .before in
-    let c₁ = c₂ .before in
-    let p = c₁ .before .before .before in
-    let s₀ = begun _ _ (p .before .add-round-key .ensures) (p .before .before .load .ensures) in
-    c .store .ensures
-    ∙ ended _ _ (p .loop .n) (omega arith) (p .loop .inv .2 _ s₀) (c₁ .shift-rows2 .ensures) (c₂ .sub-bytes .ensures) (c₃ .add-round-key3 .ensures)
+returns c h =
+    let p = c .before .before in
+    ended _ _ (p .loop .n) (omega arith) (p .loop .inv .2 h _ (begun _ _ (p .before .add-round-key .ensures))) (c .last-round .ensures h)
 
 pub encrypt-spec : {M : Type 1} → statement M
 encrypt-spec =
@@ -43,17 +36,10 @@ encrypt-spec =
     Inv-loop
     μ-loop
     (λ c κs. search needs)
-    (λ c κs. search needs)
-    (λ c κs. search needs)
     loop-holds
-    (λ c κs. search needs)
-    (λ c κs. search needs)
     (λ c κs. search needs)
     (λ c. search needs)
     (λ c. search needs)
     loop-again
-    (λ c κs. search needs)
-    (λ c κs. search needs)
-    (λ c κs. search needs)
     (λ c κs. search needs)
     returns)

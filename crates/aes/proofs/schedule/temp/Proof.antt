@@ -7,11 +7,11 @@ use Rattle.aes.proofs.schedule.temp.Tie as tie
 
 returns : tie.Need-returns
 unfolding roundConstants
-returns c =
-    temp-turned (c .before .before .before .args .i) _ _ _ (c .before .before .if1 .taken) (c .sub-word .ensures) (c .before .rot-word .ensures)
+returns c h =
+    temp-turned (c .before .before .before .args .i) _ _ _ (c .before .before .if1 .taken) (c .sub-word .ensures h) (c .before .rot-word .ensures)
 
 returns-2 : tie.Need-returns-2
-returns-2 c = temp-same (c .before .args .i) _ (c .if1 .left)
+returns-2 c h = temp-same (c .before .args .i) _ (c .if1 .left)
 
 pub temp-spec : {M : Type 1} → statement M
 temp-spec =

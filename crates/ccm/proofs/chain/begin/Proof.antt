@@ -17,11 +17,12 @@ returns c =
     let c₃ = c .before .before .before in
     let c₂ = c₃ .before in
     let c₁ = c₂ .before in
-    let a = c₁ .before .before .args in
+    let s = c₁ .before .before in
+    let a = s .args in
     let E = cipher 10 (a .w .now) in
     let end : length (a .aad .now) + 2 - 0 ≡ length (a .aad .now) + 2 = omega arith in
     c .absorb .ensures
-    ∙ ap₂ (λ (x s : List ℕ). chain E x (blocks s)) (c₂ .encrypt .ensures ∙ ap E (c₁ .formatted .ensures)) (ap (λ (k : ℕ). take k (c₃ .coded .result)) end ∙ c₃ .coded .ensures)
+    ∙ ap₂ (λ (x s : List ℕ). chain E x (blocks s)) (c₂ .encrypt .ensures (s .pre .2) ∙ ap E (c₁ .formatted .ensures)) (ap (λ (k : ℕ). take k (c₃ .coded .result)) end ∙ c₃ .coded .ensures)
 
 pub begin-spec : {M : Type 1} → statement M
 begin-spec =
