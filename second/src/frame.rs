@@ -7,6 +7,8 @@ use crate::window::{Window, SIZES};
 pub const MAX_NUMBER: u64 = (1 << 48) - 1;
 /// The greatest body of a plain frame.
 pub const MAX_BODY: usize = 7_935;
+/// A body up to this is opened by way of a smaller array, which is cleared sooner.
+const SHORT_BODY: usize = 1_536;
 /// The greatest header: A4, QoS Control and HT Control.
 pub const MAX_HEADER: usize = 36;
 
@@ -242,9 +244,16 @@ impl Receiver {
         require(self.windows[usize::from(priority)].takes(number, self.window_size), Refusal::Replay)?;
 
         // Apart from `out`, which a refusal leaves as it was: CCM clears the room that it was lent where the MIC is wrong.
-        let mut body = [0; MAX_BODY];
+        let (mut short, mut long);
+        let body: &mut [u8] = if text.len() <= SHORT_BODY + MIC {
+            short = [0; SHORT_BODY];
+            &mut short
+        } else {
+            long = [0; MAX_BODY];
+            &mut long
+        };
         let (data, length) = header.authenticated_data();
-        let body_length = Ccm::new(&self.key).open(&header.nonce(number), &data[..length], text, &mut body).ok_or(Refusal::Integrity)?;
+        let body_length = Ccm::new(&self.key).open(&header.nonce(number), &data[..length], text, body).ok_or(Refusal::Integrity)?;
         let (front, room) = out.split_at_mut(header.0.len());
         front.copy_from_slice(header.0);
         front[1] &= !PROTECTED;
