@@ -15,6 +15,9 @@ import subprocess
 root = pathlib.Path(__file__).resolve().parent.parent
 PAGE = 4_096
 
+# The function that calls itself for each part of an opened message, and the parts of the longest body.
+PARTED, PARTS = "ccm::open_from", 5
+
 
 def functions(file):
     """What each function takes by itself, and the functions that it calls."""
@@ -36,8 +39,9 @@ def functions(file):
 
 
 def depth(frames, calls, name):
-    inner = max((depth(frames, calls, callee) for callee in calls[name] if callee in frames), default=(0, []))
-    return frames[name] + inner[0], [f"{name} {frames[name]}"] + inner[1]
+    inner = max((depth(frames, calls, callee) for callee in calls[name] - {name} if callee in frames), default=(0, []))
+    times = PARTS if name == PARTED else 1
+    return times * frames[name] + inner[0], [f"{name} {frames[name]}" + (f" {times} times" if times > 1 else "")] + inner[1]
 
 
 def answers(program, book, pages):
@@ -49,7 +53,7 @@ def answers(program, book, pages):
 
 
 ENTRIES = {
-    "staticlib/libbench.a": ["bench_ccmp_seal", "bench_ccmp_open", "bench_split", "bench_join", "table::adding::add", "table::serving::seal", "table::serving::open"],
+    "staticlib/libbench.a": ["ccm::seal", "ccm::open", "bench_ccmp_seal", "bench_ccmp_open", "bench_split", "bench_join", "table::adding::add", "table::serving::seal", "table::serving::open"],
     "staticlib/libkondrivai.a": ["kondrivai_fresh_sender", "kondrivai_fresh_receiver", "kondrivai_seal", "kondrivai_open"],
     "bin/framebook": ["main"],
 }
@@ -57,7 +61,9 @@ for file, names in ENTRIES.items():
     frames, calls = functions(file)
     for name in names:
         octets, chain = depth(frames, calls, name)
-        print(f"{name}: {octets} octets ({', '.join(chain)})")
+        more = (PARTS - 1) * frames.get(PARTED, 0)
+        short = f", {octets - more} where the message is one part" if any(place.startswith(PARTED) for place in chain) else ""
+        print(f"{name}: {octets} octets{short} ({', '.join(chain)})")
 
 # A last line without a line feed: it is answered by `finish`, with an array of its own.
 book = (root / "examples/replay.book").read_bytes().rstrip(b"\n")
