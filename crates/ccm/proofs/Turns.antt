@@ -67,7 +67,7 @@ module _ (E : List ℕ → List ℕ) (s : List ℕ) (at : ℕ) where
     next : (at + 16) / 16 + i ≡ suc (at / 16 + i)
     next = omega arith
 
-    -- a turn of `mask`, and its end: t is what is to be written
+    -- a turn of what `pass` writes, and its end: t is what is to be written
     pub masks : (out out′ q t : List ℕ) → at < length s → q ≡ xors (take 16 (drop at s)) (S E N (at / 16 + i)) → take (at + 16) out′ ≡ take at out ++ q
         → take at out ++ masked E N (at / 16 + i) (drop at s) ≡ t → take (at + 16) out′ ++ masked E N ((at + 16) / 16 + i) (drop (at + 16) s) ≡ t
     masks out out′ q t h is io inv =
@@ -84,8 +84,8 @@ module _ (E : List ℕ → List ℕ) (s : List ℕ) (at : ℕ) where
         ∙ ap₂ (λ (c d : List ℕ). c ++ d) (sym (take-all at out (omega arith))) (sym (masked-none E N (at / 16 + i) (drop at s) (omega (arith, length-drop at s))))
         ∙ inv
 
-    -- a turn of `absorb_masked`, and its end
-    pub absorbs-masked : (x q y : List ℕ) → at < length s → q ≡ xors (take 16 (drop at s)) (S E N (at / 16 + i)) → y ≡ E (xors x (padded q))
+    -- the chain through a block of what s masks, and its end
+    absorbs-masked : (x q y : List ℕ) → at < length s → q ≡ xors (take 16 (drop at s)) (S E N (at / 16 + i)) → y ≡ E (xors x (padded q))
         → chain E x (blocks (masked E N (at / 16 + i) (drop at s))) ≡ chain E y (blocks (masked E N ((at + 16) / 16 + i) (drop (at + 16) s)))
     absorbs-masked x q y h is iy =
         let j = at / 16 + i in
@@ -93,7 +93,7 @@ module _ (E : List ℕ → List ℕ) (s : List ℕ) (at : ℕ) where
         ∙ ap₂ (λ (z l : List ℕ). chain E z (blocks (masked E N (suc j) l))) (ap (λ (c : List ℕ). E (xors x (padded c))) (sym is) ∙ sym iy) (drop-drop 16 at s)
         ∙ ap (λ (k : ℕ). chain E y (blocks (masked E N k (drop (at + 16) s)))) (sym next)
 
-    pub absorbed-masked : (x : List ℕ) → length s ≤ at → chain E x (blocks (masked E N (at / 16 + i) (drop at s))) ≡ x
+    absorbed-masked : (x : List ℕ) → length s ≤ at → chain E x (blocks (masked E N (at / 16 + i) (drop at s))) ≡ x
     absorbed-masked x h =
         let e = masked-none E N (at / 16 + i) (drop at s) (omega (arith, length-drop at s)) in
         ap (chain E x) (blocks-none (masked E N (at / 16 + i) (drop at s)) (ap length e))
