@@ -1,8 +1,8 @@
 #!/usr/bin/env python3
-"""Compares the proved CCM with that of Python's `cryptography` (OpenSSL): random messages of 0 to 8,000 octets with 1 to 64 octets of
+"""Compares the proved CCM with that of Python's `cryptography` (OpenSSL): random messages of 0 to MOST octets with 1 to 64 octets of
 authenticated data, sealed, opened, and opened again with one bit turned over.
 
-  tests/ccm_outside.py [CASES [SEED]]        10,000 cases and seed 1 where none is given
+  tests/ccm_outside.py [CASES [SEED [MOST]]]        10,000 cases, seed 1 and 8,000 octets where none is given
 """
 import ctypes
 import random
@@ -15,6 +15,7 @@ import proved
 REFUSED = 2**64 - 1
 cases = int(sys.argv[1]) if len(sys.argv) > 1 else 10_000
 seed = int(sys.argv[2]) if len(sys.argv) > 2 else 1
+most = int(sys.argv[3]) if len(sys.argv) > 3 else 8_000
 exported = proved.library()
 source = random.Random(seed)
 
@@ -33,7 +34,7 @@ def flipped(octets):
 
 for case in range(cases):
     key, nonce = source.randbytes(16), source.randbytes(13)
-    aad, body = source.randbytes(source.randint(1, 64)), source.randbytes(source.randint(0, 8_000))
+    aad, body = source.randbytes(source.randint(1, 64)), source.randbytes(source.randint(0, most))
     room = source.randbytes(len(body) + 8 + source.randint(0, 20))
     text = AESCCM(key, tag_length=8).encrypt(nonce, body, aad)
     here = f"case {case} of seed {seed}"
