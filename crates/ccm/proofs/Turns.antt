@@ -7,12 +7,25 @@ use Prim.Native.Nat.{ℕ, suc, _+_, _-_, _/_, _≤_, _<_}
 use native.Mathlib.Omega.{arith}
 use lib.ListN.{length, take, drop, length-append, length-take, length-drop, drop-of-length-le}
 use lib.Seq.{drop-drop, take-all, take-at}
+use borrow.Author.Tests.{lt-leb, le-leb}
 use Rattle.octets.proofs.Orders.{le-or-lt}
 use Rattle.ccm.specs.Blocks.{xors, padded, blocks, BlockCipher}
 use Rattle.ccm.specs.Ccm.{chain, S, masked}
+use Rattle.ccm.specs.Room.{counterAt}
 use Rattle.ccm.proofs.Strings.{take-xors, length-xors}
 use Rattle.ccm.proofs.Padding.{unpadded}
 use Rattle.ccm.proofs.Splitting.{blocks-more, blocks-none, length-S, masked-none, masked-more, blocks-masked}
+
+-- the counter within a text, behind its last block, and its most
+module _ (n at i after : ℕ) where
+  pub counter-within : at < n → counterAt n at i after ≡ i
+  counter-within h = rw (lt-leb n at h)
+
+  pub counter-behind : n ≤ at → counterAt n at i after ≡ after
+  counter-behind h = rw (le-leb n at h)
+
+  pub counter-most : (most : ℕ) → i ≤ most → after ≤ most → counterAt n at i after ≤ most
+  counter-most most hi ha = ⊎-elim (λ le. omega (arith, counter-behind le)) (λ gt. omega (arith, counter-within gt)) (le-or-lt n at)
 
 -- out with a block's octets ys in their place, as `put_block` leaves it
 module _ (s out ys : List ℕ) (at : ℕ) (h : at < length s) (lo : length out ≡ length s) (ly : length ys ≡ length (take 16 (drop at s))) where

@@ -4,8 +4,7 @@ mod blocks; // blocks.rt: blocks of 16 octets
 mod chain; // chain.rt: section 2.2, authentication
 mod stream; // stream.rt: section 2.3, encryption, with the chain beside it
 
-use aes::State;
-use chain::begin;
+use aes::Two;
 pub use limits::CODE_OCTETS;
 use limits::HELD;
 use limits::LEAST_DATA;
@@ -13,6 +12,7 @@ use limits::MOST_DATA;
 use limits::MOST_MESSAGE;
 use stream::code_of;
 use stream::pass;
+use stream::start;
 use stream::verified;
 ghost use mathlib.Core.Bool.{cond};
 ghost use mathlib.Core.Path.{_≡_};
@@ -52,9 +52,9 @@ fn put(t: &[u64; 256], w: &[u8; 176], nonce: [u8; 13], aad: &[u8], body: &[u8], 
         ++ drop (length (now (body .entry)) + codeOctets) (now (out .entry)) ⌝ }
 {
     let n = body.len();
-    let first = begin(t, w, nonce, aad, n);
-    let last = pass(t, w, nonce, 1, first, body, false, &mut out[0..n]);
-    let code = code_of(t, w, nonce, last);
+    let first = start(t, w, nonce, aad, n);
+    let last = pass(t, w, nonce, 1, 0, first, body, false, &mut out[0..n]);
+    let code = code_of(last);
     bytes::copy(&code[0..CODE_OCTETS], &mut out[n..n + CODE_OCTETS]);
 }
 
@@ -79,26 +79,26 @@ pub fn seal(key: [u8; 16], nonce: [u8; 13], aad: &[u8], body: &[u8], out: &mut [
     Outcome::Done(n + CODE_OCTETS)
 }
 
-// Opens the last part of a text, whose first block has the counter i, where X stands: says whether the code is right, and writes
-// the message if it is. Until then it waits in an array.
+// Opens the last part of a text, whose first block has the counter i, from where the key stream and X stand: says whether the code is
+// right, and writes the message if it is. Until then it waits in an array.
 fn open_last(
     t: &[u64; 256],
     w: &[u8; 176],
     nonce: [u8; 13],
     i: usize,
-    x: State,
+    from: Two,
     text: &[u8],
     out: &mut [u8],
 ) -> bool
-    requires { ⌜ Openable i (now text) (now out) × (length (now text) ≤ held + codeOctets) × Products (now t) ⌝ }
-    ensures { λ r. ⌜ r ≡ rightFrom (cipher 10 (now (w .entry))) nonce i (bytesOf x) (now (text .entry)) ⌝ }
+    requires { ⌜ Openable (cipher 10 (now w)) nonce i (bytesOf (from .first)) (now text) (now out) × (length (now text) ≤ held + codeOctets) × Products (now t) ⌝ }
+    ensures { λ r. ⌜ r ≡ rightFrom (cipher 10 (now (w .entry))) nonce i (bytesOf (from .second)) (now (text .entry)) ⌝ }
     ensures { λ r. ⌜
         now (out .exit) ≡ cond r (messageFrom (cipher 10 (now (w .entry))) nonce i (now (text .entry)) ++ drop (length (now (text .entry)) - codeOctets) (now (out .entry))) (now (out .entry)) ⌝ }
 {
     let n = text.len() - CODE_OCTETS;
     let mut part = [0u8; HELD];
-    let last = pass(t, w, nonce, i, x, &text[0..n], true, &mut part[0..n]);
-    if !verified(t, w, nonce, last, &text[n..]) {
+    let last = pass(t, w, nonce, i, 0, from, &text[0..n], true, &mut part[0..n]);
+    if !verified(last, &text[n..]) {
         return false;
     }
     bytes::copy(&part[0..n], &mut out[0..n]);
@@ -111,18 +111,18 @@ fn open_first(
     w: &[u8; 176],
     nonce: [u8; 13],
     i: usize,
-    x: State,
+    from: Two,
     text: &[u8],
     out: &mut [u8],
 ) -> bool
-    requires { ⌜ Openable i (now text) (now out) × (held + codeOctets < length (now text)) × Products (now t) ⌝ }
-    ensures { λ r. ⌜ r ≡ rightFrom (cipher 10 (now (w .entry))) nonce i (bytesOf x) (now (text .entry)) ⌝ }
+    requires { ⌜ Openable (cipher 10 (now w)) nonce i (bytesOf (from .first)) (now text) (now out) × (held + codeOctets < length (now text)) × Products (now t) ⌝ }
+    ensures { λ r. ⌜ r ≡ rightFrom (cipher 10 (now (w .entry))) nonce i (bytesOf (from .second)) (now (text .entry)) ⌝ }
     ensures { λ r. ⌜
         now (out .exit) ≡ cond r (messageFrom (cipher 10 (now (w .entry))) nonce i (now (text .entry)) ++ drop (length (now (text .entry)) - codeOctets) (now (out .entry))) (now (out .entry)) ⌝ }
 {
     let mut part = [0u8; HELD];
-    let next = pass(t, w, nonce, i, x, &text[0..HELD], true, &mut part);
     let after = i + HELD / 16;
+    let next = pass(t, w, nonce, i, after, from, &text[0..HELD], true, &mut part);
     if !open_from(t, w, nonce, after, next, &text[HELD..], &mut out[HELD..]) {
         return false;
     }
@@ -136,19 +136,19 @@ fn open_from(
     w: &[u8; 176],
     nonce: [u8; 13],
     i: usize,
-    x: State,
+    from: Two,
     text: &[u8],
     out: &mut [u8],
 ) -> bool
-    requires { ⌜ Openable i (now text) (now out) × Products (now t) ⌝ }
-    ensures { λ r. ⌜ r ≡ rightFrom (cipher 10 (now (w .entry))) nonce i (bytesOf x) (now (text .entry)) ⌝ }
+    requires { ⌜ Openable (cipher 10 (now w)) nonce i (bytesOf (from .first)) (now text) (now out) × Products (now t) ⌝ }
+    ensures { λ r. ⌜ r ≡ rightFrom (cipher 10 (now (w .entry))) nonce i (bytesOf (from .second)) (now (text .entry)) ⌝ }
     ensures { λ r. ⌜
         now (out .exit) ≡ cond r (messageFrom (cipher 10 (now (w .entry))) nonce i (now (text .entry)) ++ drop (length (now (text .entry)) - codeOctets) (now (out .entry))) (now (out .entry)) ⌝ }
 {
     if text.len() <= HELD + CODE_OCTETS {
-        return open_last(t, w, nonce, i, x, text, out);
+        return open_last(t, w, nonce, i, from, text, out);
     }
-    open_first(t, w, nonce, i, x, text, out)
+    open_first(t, w, nonce, i, from, text, out)
 }
 
 // Opens text with nonce and aad into the front of out; the rest of out is kept. A refusal writes nothing, and nothing is
@@ -172,7 +172,7 @@ pub fn open(key: [u8; 16], nonce: [u8; 13], aad: &[u8], text: &[u8], out: &mut [
     let mut t = [0u64; 256];
     aes::fill_products(&mut t);
     let w = aes::expand(&t, key);
-    let first = begin(&t, &w, nonce, aad, n);
+    let first = start(&t, &w, nonce, aad, n);
     if !open_from(&t, &w, nonce, 1, first, text, out) {
         return Outcome::Refused;
     }

@@ -1,6 +1,6 @@
 -- The proof of the cycle of calls {open_first, open_from}, by the text's length, twice, and one more for `open_from`: the first part and what is opened
 -- after it make the whole.
-use mathlib.Core.Path.{sym, ap, subst, _∙_}
+use mathlib.Core.Path.{_≡_, sym, ap, subst, _∙_}
 use mathlib.Core.List.{List}
 use Prim.Native.Nat.{ℕ, _+_, _-_, _*_, _<_, _≤_}
 use native.Mathlib.Omega.{arith}
@@ -14,8 +14,10 @@ use Rattle.aes.specs.Cipher.{cipher}
 use Rattle.aes.specs.Word.{bytesOf}
 use Rattle.aes.proofs.Laws.{length-cipher}
 use Rattle.ccm.specs.Limits.{codeOctets, held, heldBlocks}
+use Rattle.ccm.specs.Ccm.{S}
 use Rattle.ccm.specs.Room.{messageFrom}
 use Rattle.ccm.proofs.Splitting.{length-masked}
+use Rattle.ccm.proofs.Turns.{counter-within}
 use Rattle.ccm.proofs.Parts.{joined, right-parts, kept-out, put-out, length-out, openable-after}
 use Rattle.ccm.proofs.open_first.Reads as open-first
 use Rattle.ccm.proofs.open_first.Kinds as open-first-kinds
@@ -61,16 +63,19 @@ pub +open-first+open-from-spec : {M : Type 1} → statement M
     open-first-lts.spec (pass-reads.Asked, pass-reads.Learnt, open-from-below t, open-from.Post, copy-reads.Asked, copy-reads.Learnt)
     (open-first-at t)
     open-first.Post
+    (λ c. omega (arith, c .before .before .pre .1 .0 .counted))
     (λ c. search needs)
     (λ c. search needs)
     (λ c. search needs)
     (λ c. search needs)
     (λ c κs.
     let s = c .before .before .before .before in
+    let a = s .args in
     let h = s .pre .1 .0 in
     let long = s .pre .1 .1 in
-    (simp length-take (omega (arith, h .counted, long)), simp length-take (omega (arith, long)), s .pre .1 .2))
-    (λ c. omega (arith, c .before .before .before .before .before .before .pre .1 .0 .counted))
+    let e : length (take held (a .text .now)) ≡ held = omega (arith, length-take held (a .text .now)) in
+    let one = counter-within (length (a .text .now) - codeOctets) 0 (a .i) 0 (omega (arith, long)) ∙ sym (counter-within (length (take held (a .text .now))) 0 (a .i) _ (omega (arith, e))) in
+    (omega (arith, h .counted, e), omega (arith, h .counted), sym e, h .at-hand ∙ ap (S (cipher 10 (a .w .now)) (a .nonce)) one, s .pre .1 .2))
     (λ c. search needs)
     (λ c. search needs)
     (λ c. search needs)
@@ -80,7 +85,7 @@ pub +open-first+open-from-spec : {M : Type 1} → statement M
     (λ c κs.
     let s = c .before .before .before .before .before .before .before .before in
     let a = s .args in
-    (subst (λ (j : ℕ). 2 * length (take (length (a .text .now) - held) (drop held (a .text .now))) + 1 < j) (s .pre .0) (shorter (a .text .now) (s .pre .1 .1)), (openable-after (a .i) (a .text .now) (a .out .now) (s .pre .1 .1) (s .pre .1 .0), s .pre .1 .2)))
+    (subst (λ (j : ℕ). 2 * length (take (length (a .text .now) - held) (drop held (a .text .now))) + 1 < j) (s .pre .0) (shorter (a .text .now) (s .pre .1 .1)), (openable-after (cipher 10 (a .w .now)) (a .nonce) (a .i) (bytesOf (a .from .first)) _ (a .text .now) (a .out .now) (s .pre .1 .1) (c .before .before .before .pass .ensures .0) (s .pre .1 .0), s .pre .1 .2)))
     (λ c. search needs)
     (λ c.
     let opened = c .before .before .before in
@@ -92,7 +97,7 @@ pub +open-first+open-from-spec : {M : Type 1} → statement M
     let wrong = not-true _ (c .if1 .taken) in
     let h = s .pre .1 .0 in
     let long = s .pre .1 .1 in
-    (sym wrong ∙ right-parts E hE (a .nonce) (a .i) (a .text .now) long (bytesOf (a .x)) _ _ (passed .pass .ensures .0) (opened .open-from .ensures .0), kept-out (a .out .now) (omega (arith, h .room-holds, long)) _ (opened .open-from .ensures .1 ∙ rw wrong)))
+    (sym wrong ∙ right-parts E hE (a .nonce) (a .i) (a .text .now) long (bytesOf (a .from .second)) _ _ (passed .pass .ensures .1 .0) (opened .open-from .ensures .0), kept-out (a .out .now) (omega (arith, h .room-holds, long)) _ (opened .open-from .ensures .1 ∙ rw wrong)))
     (λ c. search needs)
     (λ c. search needs)
     (λ c. search needs)
@@ -107,7 +112,7 @@ pub +open-first+open-from-spec : {M : Type 1} → statement M
     let h = s .pre .1 .0 in
     let long = s .pre .1 .1 in
     let fits : held ≤ length (a .out .now) = omega (arith, h .room-holds, long) in
-    let part = copied .copy .ensures .1 ∙ laid-all _ _ (simp length-take (omega (arith, fits))) ∙ passed .pass .ensures .1 in
+    let part = copied .copy .ensures .1 ∙ laid-all _ _ (simp length-take (omega (arith, fits))) ∙ passed .pass .ensures .1 .1 in
     let size = length-masked (cipher 10 (a .w .now)) (length-cipher 10 (a .w .now)) (a .nonce) (a .i) (take held (a .text .now)) in
     length-out (a .out .now) fits (opened .open-from .last .1 .1 .1 .1 .1 .1 .0) (copied .copy .last .1 .0) (opened .open-from .kept .1 .1 .1 .1 .1 .1 .0) (ap length part ∙ omega (arith, size, length-take held (a .text .now), long)))
     (λ c.
@@ -123,9 +128,9 @@ pub +open-first+open-from-spec : {M : Type 1} → statement M
     let h = s .pre .1 .0 in
     let long = s .pre .1 .1 in
     let fits : held ≤ length (a .out .now) = omega (arith, h .room-holds, long) in
-    let part = copied .copy .ensures .1 ∙ laid-all _ _ (simp length-take (omega (arith, fits))) ∙ passed .pass .ensures .1 in
+    let part = copied .copy .ensures .1 ∙ laid-all _ _ (simp length-take (omega (arith, fits))) ∙ passed .pass .ensures .1 .1 in
     let after = take (length (a .text .now) - held) (drop held (a .text .now)) in
-    (sym found ∙ right-parts E hE (a .nonce) (a .i) (a .text .now) long (bytesOf (a .x)) _ _ (passed .pass .ensures .0) (opened .open-from .ensures .0), put-out (a .out .now) fits _ _ _ (messageFrom E (a .nonce) (a .i + heldBlocks) after) (length after - codeOctets) part (opened .open-from .ensures .1 ∙ rw found) ∙ joined E hE (a .nonce) (a .i) (a .text .now) long (a .out .now))))
+    (sym found ∙ right-parts E hE (a .nonce) (a .i) (a .text .now) long (bytesOf (a .from .second)) _ _ (passed .pass .ensures .1 .0) (opened .open-from .ensures .0), put-out (a .out .now) fits _ _ _ (messageFrom E (a .nonce) (a .i + heldBlocks) after) (length after - codeOctets) part (opened .open-from .ensures .1 ∙ rw found) ∙ joined E hE (a .nonce) (a .i) (a .text .now) long (a .out .now))))
     (λ t.
     open-from-lts.spec (open-last-reads.Asked, open-last-reads.Learnt, open-first-below t, open-first.Post)
     (open-from-at t)

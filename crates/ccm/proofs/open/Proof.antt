@@ -58,24 +58,31 @@ returns-3 c =
 cipher-is : (c : tie.After-expand) → cipher 10 (c .expand .result) ≡ aes128 (start (long (limited c)) .args .key)
 cipher-is c = ap (cipher 10) (c .expand .ensures (filled c .fill-products .ensures)) ∙ sym (aes128-is _)
 
-begin-requires : tie.Need-begin-requires
-begin-requires c κs =
+start-requires : tie.Need-start-requires
+start-requires c κs =
     let made = c .before .before in
     let h = in-limits _ _ (limits (limited made)) in
     (h .1, h .2, filled made .fill-products .ensures)
 
 -- the schedule, from the start of the chain and from the code's test
-abbrev made : tie.After-begin → tie.After-expand
+abbrev made : tie.After-start → tie.After-expand
 made c = c .before .before .before
 
-abbrev begun : tie.After-open-from → tie.After-begin
+abbrev begun : tie.After-open-from → tie.After-start
 begun c = c .before .before .before .before
 
 open-from-requires : tie.Need-open-from-requires
 open-from-requires c κs =
     let d = made (c .before .before .before) in
-    let h = in-limits _ _ (limits (limited d)) in
-    (record { has-code = long (limited d) .if1 .left; counted = omega (arith, h .2); room-holds = d .before .before .before .before .if3 .left }, filled d .fill-products .ensures)
+    let h = in-limits _ _ (limits (limited d)) in (
+      record {
+        has-code = long (limited d) .if1 .left;
+        counted = omega (arith, h .2);
+        room-holds = d .before .before .before .before .if3 .left;
+        at-hand = c .before .before .before .start .ensures .0;
+      },
+      filled d .fill-products .ensures,
+    )
 
 -- whether the code of the whole message is right
 right-is : (c : tie.After-open-from)
@@ -92,7 +99,7 @@ right-is c =
     let t = a .text .now in
     let size = length-masked E (length-cipher 10 (d .expand .result)) (a .nonce) 1 (take (length t - codeOctets) t) in
     compared-as _ _ _ _ (c .open-from .ensures .0)
-    (code-is E codeOctets (a .nonce) (a .aad .now) _ _ _ _ _ (omega (arith, size, length-take (length t - codeOctets) t)) (b .begin .ensures) refl refl)
+    (code-is E codeOctets (a .nonce) (a .aad .now) _ _ _ _ _ (omega (arith, size, length-take (length t - codeOctets) t)) (b .start .ensures .1) refl refl)
 
 returns-4 : tie.Need-returns-4
 returns-4 c =
@@ -125,7 +132,7 @@ open-spec =
     returns-3
     (λ c κs. search needs)
     (λ c κs. search needs)
-    begin-requires
+    start-requires
     open-from-requires
     (λ c. search needs)
     returns-4

@@ -5,6 +5,7 @@ use Prim.Native.Nat.{ℕ, _-_}
 use native.Mathlib.Omega.{arith}
 use lib.ListN.{length, take, drop, length-take, length-drop, length-append}
 use lib.Seq.{take-at, take-all}
+use lib.Dec.{lit≤}
 use borrow.Author.Tests.{not-true, not-false}
 use borrow.Author.Needs.{needs}
 use Rattle.octets.specs.Octets.{same}
@@ -14,7 +15,7 @@ use Rattle.aes.specs.Word.{bytesOf}
 use Rattle.ccm.specs.Limits.{codeOctets}
 use Rattle.ccm.specs.Blocks.{xors, blocks}
 use Rattle.ccm.specs.Ccm.{chain, S, masked}
-use Rattle.ccm.specs.Room.{messageFrom, rightFrom}
+use Rattle.ccm.specs.Room.{counterAt, messageFrom, rightFrom}
 use Rattle.aes.proofs.Laws.{length-cipher}
 use Rattle.ccm.proofs.Splitting.{length-masked}
 use Rattle.ccm.proofs.open_last.Statement.{statement}
@@ -33,7 +34,20 @@ abbrev m : tie.After-pass → List ℕ
 m c = messageFrom (E c) (start c .args .nonce) (start c .args .i) (t c)
 
 abbrev front : tie.After-pass → List ℕ
-front c = c .pass .last .1 .1 .1 .1 .1 .1 .1 .0
+front c = c .pass .last .1 .1 .1 .1 .1 .1 .1 .1 .0
+
+pass-requires : tie.Need-pass-requires
+pass-requires c κs =
+    let s = c .before .before .before .before in
+    let a = s .args in
+    let t = a .text .now in
+    let e : length t - codeOctets ≡ length (take (length t - codeOctets - 0) t) = omega (arith, length-take (length t - codeOctets - 0) t) in (
+      omega (arith, s .pre .0 .counted, e),
+      lit≤ tt,
+      simp length-take (omega (arith, s .pre .1)),
+      s .pre .0 .at-hand ∙ ap (λ (n : ℕ). S (cipher 10 (a .w .now)) (a .nonce) (counterAt n 0 (a .i) 0)) e,
+      s .pre .2,
+    )
 
 -- the message, as the slice [0..n] has it
 whole : (c : tie.After-pass) → take (length (t c) - codeOctets - 0) (t c) ≡ take (length (t c) - codeOctets) (t c)
@@ -42,7 +56,7 @@ whole c =
     ap (λ (k : ℕ). take k (t c)) e
 
 masked-is : (c : tie.After-pass) → front c ≡ m c
-masked-is c = c .pass .ensures .1 ∙ ap (masked (E c) (start c .args .nonce) (start c .args .i)) (whole c)
+masked-is c = c .pass .ensures .1 .1 ∙ ap (masked (E c) (start c .args .nonce) (start c .args .i)) (whole c)
 
 length-front : (c : tie.After-pass) → length (front c) ≡ length (t c) - codeOctets
 length-front c =
@@ -53,13 +67,15 @@ length-front c =
 front-is : (c : tie.After-pass) (rest : List ℕ) → take (length (t c) - codeOctets - 0) (front c ++ rest) ≡ m c
 front-is c rest = take-at (front c) rest (length (t c) - codeOctets - 0) (omega (arith, length-front c)) ∙ masked-is c
 
-right-is : (c : tie.After-verified) → let d = c .before .before .before in c .verified .result ≡ rightFrom (E d) (start d .args .nonce) (start d .args .i) (bytesOf (start d .args .x)) (t d)
+right-is : (c : tie.After-verified) → let d = c .before .before .before in c .verified .result ≡ rightFrom (E d) (start d .args .nonce) (start d .args .i) (bytesOf (start d .args .from .second)) (t d)
 right-is c =
     let d = c .before .before .before in
     let a = start d .args in
+    let code = take (length (t d) - (length (t d) - codeOctets)) (drop (length (t d) - codeOctets) (t d)) in
     c .verified .ensures
+    ∙ ap (λ (k : List ℕ). same (xors (take codeOctets (bytesOf (d .pass .result .second))) k) code) (d .pass .ensures .0)
     ∙ ap₂ (λ (z l : List ℕ). same (xors (take codeOctets z) (S (E d) (a .nonce) 0)) l)
-    (d .pass .ensures .0 ∙ ap (λ (s : List ℕ). chain (E d) (bytesOf (a .x)) (blocks (masked (E d) (a .nonce) (a .i) s))) (whole d))
+    (d .pass .ensures .1 .0 ∙ ap (λ (s : List ℕ). chain (E d) (bytesOf (a .from .second)) (blocks (masked (E d) (a .nonce) (a .i) s))) (whole d))
     (take-all (length (t d) - (length (t d) - codeOctets)) (drop (length (t d) - codeOctets) (t d)) (omega (arith, length-drop (length (t d) - codeOctets) (t d))))
 
 returns : tie.Need-returns
@@ -90,7 +106,7 @@ open-last-spec =
     (λ c. search needs)
     (λ c. search needs)
     (λ c. search needs)
-    (λ c κs. search needs)
+    pass-requires
     (λ c. search needs)
     (λ c. search needs)
     (λ c. search needs)

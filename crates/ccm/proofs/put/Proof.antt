@@ -7,8 +7,10 @@ use lib.ListN.{length, take, drop, length-take}
 use borrow.Author.Needs.{needs}
 use Rattle.octets.proofs.Lists.{laid-all}
 use Rattle.aes.specs.Cipher.{cipher}
+use Rattle.aes.specs.Word.{bytesOf}
 use Rattle.aes.proofs.Laws.{length-cipher}
 use Rattle.ccm.specs.Limits.{codeOctets}
+use Rattle.ccm.specs.Blocks.{xors}
 use Rattle.ccm.proofs.Splitting.{length-masked}
 use Rattle.ccm.proofs.Codes.{code-is}
 use Rattle.ccm.proofs.Answers.{put-both}
@@ -26,15 +28,15 @@ returns c =
     let out = a .out .now in
     let m = a .body .now in
     let n = length m in
-    let ys = passed .pass .last .1 .1 .1 .1 .1 .1 .1 .0 in
+    let ys = passed .pass .last .1 .1 .1 .1 .1 .1 .1 .1 .0 in
     let zs = copied .copy .last .1 .0 in
-    let ly : length ys ≡ n = ap length (passed .pass .ensures .1) ∙ length-masked E (length-cipher 10 (a .w .now)) (a .nonce) 1 m in
+    let ly : length ys ≡ n = ap length (passed .pass .ensures .1 .1) ∙ length-masked E (length-cipher 10 (a .w .now)) (a .nonce) 1 m in
     let e₀ : n - 0 ≡ n = omega arith in
     let eₘ : n + codeOctets - n ≡ codeOctets = omega arith in
-    let code = code-is E codeOctets (a .nonce) (a .aad .now) m _ _ _ n refl (begun .begin .ensures) (passed .pass .ensures .0) (coded .code-of .ensures) in
+    let code = code-is E codeOctets (a .nonce) (a .aad .now) m _ _ _ n refl (begun .start .ensures .1) (passed .pass .ensures .1 .0) (coded .code-of .ensures ∙ ap (xors (take codeOctets (bytesOf (passed .pass .result .second)))) (passed .pass .ensures .0)) in
     ap₂ (λ (j k : ℕ). take n (ys ++ drop j out) ++ (zs ++ drop k (drop n (ys ++ drop j out)))) e₀ eₘ
     ∙ put-both out ys zs n codeOctets ly
-    ∙ ap₂ (λ (p q : List ℕ). (p ++ q) ++ drop (n + codeOctets) out) (passed .pass .ensures .1) (copied .copy .ensures .1 ∙ laid-all _ _ (simp length-take (omega arith)) ∙ code)
+    ∙ ap₂ (λ (p q : List ℕ). (p ++ q) ++ drop (n + codeOctets) out) (passed .pass .ensures .1 .1) (copied .copy .ensures .1 ∙ laid-all _ _ (simp length-take (omega arith)) ∙ code)
 
 pub put-spec : {M : Type 1} → statement M
 put-spec =
