@@ -21,8 +21,8 @@ PARTS = 5
 
 
 def walked(lines):
-    """The most that a function takes by itself, and for each of its calls what it has taken there and the function called. At a place that a jump leads
-    to it has taken what it had at the jump; jumps lead back too, so it is walked until no place is new."""
+    """The most that a function takes by itself, and for each of its calls what it has taken there and the function called. At a place that only a jump
+    leads to it has taken what it had at the jump; jumps lead back too, so it is walked until no place is new."""
     at, known = {}, None
     while known != len(at):
         known, taken, most, calls = len(at), 8, 8, []
@@ -32,7 +32,8 @@ def walked(lines):
             if not instruction:
                 continue
             place, name, operands = instruction.groups()
-            taken = at.get(place, tabled if taken is None else taken)
+            if taken is None:
+                taken = at.get(place, tabled)
             if taken is None:
                 continue
             amount = re.match(r"\$(0x[0-9a-f]+),%(rsp|r11)$", operands)
