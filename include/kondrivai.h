@@ -9,8 +9,8 @@
  *
  * - No pointer is null, not even where its length is 0, and no length is over SIZE_MAX / 2. Alignment is free.
  * - What is written, the record and the output, overlaps nothing else that is lent. What is only read may overlap.
- * - Nobody else reads or writes what is lent before the call returns. Calls on different records may run at the same time, in different
- *   threads; two calls on one record may not.
+ * - Until the call returns nobody else writes what is lent, and nobody else reads the record or the output. Calls on different records may run at
+ *   the same time, in different threads; two calls on one record may not.
  * - A record is changed by these calls alone. The host may copy it, store it and read it; of two copies only one is used from then on.
  */
 #ifndef KONDRIVAI_H
@@ -58,7 +58,7 @@ extern "C" {
  */
 enum kondrivai_answer {
     KONDRIVAI_DONE = 0,
-    KONDRIVAI_RECORD = 1,     /* no record of the call's kind and layout in the buffer, a wrong length, or a record that is not sound */
+    KONDRIVAI_RECORD = 1,     /* no record of the call's kind and layout in the buffer, a wrong length, or replay windows that no call leaves */
     KONDRIVAI_SHORT = 2,      /* the frame has fewer than 24 octets, or fewer than its header */
     KONDRIVAI_KIND = 3,       /* the version is not 0, the type is not data, or the subtype has no data (0x40 in the first octet) */
     KONDRIVAI_PROTECTED = 4,  /* Protected is set in a frame to seal, or clear in one to open */
@@ -69,7 +69,7 @@ enum kondrivai_answer {
     KONDRIVAI_KEY_ID = 9,     /* opening: the key ID is not the record's */
     KONDRIVAI_REPLAY = 10,    /* opening: the packet number is 0, was opened before in its priority, or is too far below the greatest there */
     KONDRIVAI_INTEGRITY = 11, /* opening: the integrity code is wrong: another key, or what it protects was changed on the way */
-    KONDRIVAI_SPENT = 12      /* sealing: the last packet number is used; take a new key */
+    KONDRIVAI_SPENT = 12      /* sealing: the packet numbers are used up, the last was 2^48 - 1; take a new key */
 };
 
 /*
@@ -112,8 +112,9 @@ uint32_t kondrivai_seal(
  * Opens the sealed frame into the first frame_octets - KONDRIVAI_ADDED_OCTETS octets of `out`: the header as it came, with Protected
  * clear, and the body. The rest of `out` is kept. Not all of a header is protected by the code: docs/C-HOST.md says what is not.
  *
- * Answers 0. Refused, with 1 to 11, it leaves `out` as it was, and `record` but for one count: 2 to 5 and 7 to 9 are format errors, 10 is a
- * replay, 11 a decrypt error, and 1 and 6 are not counted. It never writes a body whose integrity code is wrong, and never opens a frame twice.
+ * Answers 0, and counts one frame more as opened. Refused, with 1 to 11, it leaves `out` as it was, and `record` but for one count: 2 to 5 and 7
+ * to 9 are format errors, 10 is a replay, 11 a decrypt error, and 1 and 6 are not counted. It never writes a body whose integrity code is wrong, and
+ * never opens a frame twice.
  */
 uint32_t kondrivai_open(
     uint8_t *record, size_t record_octets, const uint8_t *frame, size_t frame_octets, uint8_t *out, size_t out_octets);
