@@ -14,7 +14,7 @@ use Rattle.ccm.specs.Blocks.{xors, mostTwoOctets, padded, blocks}
 use Rattle.ccm.specs.Ccm.{formatted, S, masked, chain}
 use Rattle.ccm.specs.Room.{counterAt}
 use Rattle.aes.proofs.Laws.{length-cipher}
-use Rattle.ccm.proofs.Turns.{counter-within, counter-behind, counter-most, spliced, length-spliced, block-masked, length-part, masks, masks-end, feeds, fed}
+use Rattle.ccm.proofs.Turns.{counter-within, counter-behind, counter-most, counter-as, spliced, length-spliced, block-masked, length-part, masks, masks-end, feeds, fed}
 use Rattle.ccm.proofs.stream.pass.Statement.{statement}
 use Rattle.ccm.proofs.stream.pass.Tie as tie
 
@@ -61,7 +61,7 @@ formatted-requires c κs =
     let l = t .before .loop in
     let start = t .before .before .before .before in
     let a = start .args in
-    omega (arith, c .counter .ensures, counter-most (length (a .s .now)) (l .at + 16) (l .at / 16 + a .i + 1) (a .after) mostTwoOctets (omega (arith, t .loop-test .taken, l .inv .2)) (start .pre .1))
+    counter-most (length (a .s .now)) (l .at + 16) _ (a .after) _ mostTwoOctets (c .counter .ensures) (omega (arith, t .loop-test .taken, l .inv .2)) (start .pre .1)
 
 -- the message's block, from the turn's end
 abbrev taken : tie.After-encrypt-two Inv-loop μ-loop → tie.After-message-block Inv-loop μ-loop
@@ -99,12 +99,12 @@ loop-again c =
     let q = part (length out - at) (ap (λ (n : ℕ). n - at) lo) in
     let ys = take (length out - at) (bytesOf (added .add .result)) in
     let ly = length-part E s at hE N (a .i) ys q in
-    let later : at / 16 + a .i + 1 ≡ (at + 16) / 16 + a .i = omega arith in (
+    let counted = counter-as (length s) (at + 16) _ (a .after) _ ((at + 16) / 16 + a .i) (next .before .counter .ensures) (omega arith) in (
       l .inv .0,
       ap length (put .put-block .ensures) ∙ length-spliced s out ys at h lo ly,
       l .inv .2,
       c .encrypt-two .ensures .0 (start .pre .4) ∙ ap E (next .formatted .ensures)
-          ∙ ap (λ (j : ℕ). E (formatted 1 N j)) (next .before .counter .ensures ∙ ap (λ (j : ℕ). counterAt (length s) (at + 16) j (a .after)) later),
+          ∙ ap (λ (j : ℕ). E (formatted 1 N j)) counted,
       masks E s at hE N (a .i) out _ ys _ h q (ap (take (at + 16)) (put .put-block .ensures) ∙ spliced s out ys at h lo ly) (l .inv .4),
       feeds E s at hE N (a .i) (a .opening) (bytesOf (l .two .second)) _ _ _ _ h (part (length s - at) refl)
           (taken c .message-block .ensures ∙ ap (cond (a .opening) (padded (take (length s - at) (bytesOf (added .add .result))))) (read .block-at .ensures))

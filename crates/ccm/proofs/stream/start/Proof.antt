@@ -13,7 +13,7 @@ use Rattle.ccm.proofs.stream.start.Tie as tie
 key-block-requires : tie.Need-key-block-requires
 key-block-requires c κs =
     let s = c .before .before in
-    (omega (arith, c .counter .ensures, counter-most (s .args .n) 0 1 0 mostTwoOctets (lit≤ tt) (lit≤ tt)), s .pre .2)
+    (counter-most (s .args .n) 0 1 0 _ mostTwoOctets (c .counter .ensures) (lit≤ tt) (lit≤ tt), s .pre .2)
 
 returns : tie.Need-returns
 returns c =
