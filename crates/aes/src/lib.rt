@@ -1,4 +1,6 @@
 // AES-128 of FIPS 197: the key schedule, and the encryption of one block or of two under it.
+#![tactic(auto)]
+
 mod word; // word.rt: four bytes in a u32
 mod table; // table.rt: the S-box
 mod products; // products.rt: the table of its values' products, made for a message and lent

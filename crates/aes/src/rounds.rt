@@ -7,7 +7,7 @@ use crate::column::{mix_word, sub_word};
 use crate::word::{pack, word_at};
 
 // The four columns.
-#[derive(Drop)]
+#[derive(Clone, Copy)]
 pub struct State {
     pub a: u32,
     pub b: u32,
@@ -144,7 +144,7 @@ pub fn encrypt(t: &[u64; 256], w: &[u8; 176], block: State) -> State
 }
 
 // Two blocks, encrypted side by side.
-#[derive(Drop)]
+#[derive(Clone, Copy)]
 pub struct Two {
     pub first: State,
     pub second: State,

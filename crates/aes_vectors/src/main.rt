@@ -1,6 +1,8 @@
 // FIPS 197's vectors for AES-128. What this must print, the file stdout, was taken from the standard:
 // the key schedule from the last column of appendix A.1, and the ciphertexts from the ends of
 // appendices B and C.1.
+#![tactic(auto)]
+
 fn print_schedule(w: [u8; 176]) {
     let octets: &[u8] = &w;
     let mut i: usize = 0;

@@ -1,4 +1,6 @@
 // What the timings and the comparisons with outside programs call: the library's functions, exported to C.
+#![tactic(auto)]
+
 ghost use Rattle.std.specs.Prelude.{◌≡◌};
 ghost use Rattle.aes.specs.Cipher.{cipher};
 ghost use Rattle.aes.specs.KeyExpansion.{key_expansion, aes128};

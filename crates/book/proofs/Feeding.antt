@@ -1,7 +1,7 @@
 -- What holds between two lines of a piece, and what one more line of it, or the rest of it, makes of that.
 use Rattle.std.proofs.Common.{◌≡◌, ℕ, suc, ◌+◌, ◌-◌, ◌<◌, ◌≤◌, List, [], ◌∷◌, ◌++◌, length, take, drop, sym, refl, ap, ◌∙◌, ap₂, ⊎_elim, append-nil, zero-add, arith, length-append, length-drop, length-take-le, take_all, take-take, take-add}
 use Rattle.octets.proofs.Orders.{le_or_lt}
-use Rattle.bytes.specs.Bytes.{index_of}
+use Rattle.octets.specs.Search.{index_of}
 use Rattle.book.specs.Limits.{most_kept, most_answer}
 use Rattle.book.specs.declared.Book.{Book}
 use Rattle.book.specs.Put.{put}

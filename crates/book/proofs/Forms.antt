@@ -4,7 +4,7 @@ use mathlib.Core.Option.{Option, none, some}
 use Rattle.octets.specs.Octets.{same}
 use Rattle.octets.proofs.Orders.{le_or_lt}
 use Rattle.octets.proofs.Same.{same_refl, same_is, sizes_differ}
-use Rattle.bytes.specs.Bytes.{index_of}
+use Rattle.octets.specs.Search.{index_of}
 use Rattle.book.specs.Limits.{most_line}
 use Rattle.book.specs.Hex.{octets_of}
 use Rattle.book.specs.Text.{tab, parts}

@@ -7,7 +7,7 @@ use Rattle.octets.proofs.Booleans.{both}
 use Rattle.octets.proofs.Orders.{le_or_lt}
 use Rattle.octets.proofs.Same.{same_is}
 use Rattle.rules.specs.Limits.{most_key_id, key_octets, address_octets}
-use Rattle.bytes.specs.Bytes.{slice, index_of}
+use Rattle.octets.specs.Search.{slice, index_of}
 use Rattle.book.specs.Limits.{most_line}
 use Rattle.book.specs.declared.line.Keys.{Keys}
 use Rattle.book.specs.Hex.{digit, octets_of}

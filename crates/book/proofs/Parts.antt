@@ -1,7 +1,7 @@
 -- The first part of a text, and the parts of two texts together.
 use Rattle.std.proofs.Common.{◌≡◌, ℕ, suc, ◌<◌, ◌≤◌, Bool, true, false, cond, eqb, List, [], ◌∷◌, ◌++◌, length, take, drop, refl, ap, arith, eqb-true}
 use lib.Seq.{take-length}
-use Rattle.bytes.specs.Bytes.{slice, index_after, index_of}
+use Rattle.octets.specs.Search.{slice, index_after, index_of}
 use Rattle.book.specs.Text.{prefix, parts, all_but_last, last_of}
 
 pub whole_slice : (s : List ℕ) (i : ℕ) → slice i (length s) s ≡ drop i s

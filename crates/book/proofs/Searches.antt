@@ -1,7 +1,7 @@
 -- The first x of a text in two parts is in the first of them, or it is the first one of the second.
 use Rattle.std.proofs.Common.{◌≡◌, ℕ, suc, ◌+◌, ◌-◌, ◌<◌, ◌≤◌, Bool, true, false, ◌||◌, eqb, ltb, List, [], ◌∷◌, ◌++◌, length, get_or, take, drop, sym, refl, ap, ◌∙◌, add-one, arith, length-drop, take-append-drop, length-take-le, take-suc, drop-drop, take-add, drop_at, ltb-false, lt-ltb}
 use lib.Dec.{leb-suc-suc}
-use Rattle.bytes.specs.Bytes.{slice, index_after, index_of}
+use Rattle.octets.specs.Search.{slice, index_after, index_of}
 
 module _ (x : ℕ) where
   -- whether x is among the octets

@@ -27,19 +27,19 @@ const WORD_OCTETS: usize = 6;
 pub const MOST_ANSWER: usize = MOST_DIGITS + WORD_OCTETS + MOST_DIGITS + 1 + 2 * MOST_RESULT + 1;
 
 // The sender, the receiver or the book after a line, and the place after what was written.
-#[derive(Drop)]
+#[derive(Clone, Copy)]
 pub(crate) struct SealTurn {
     pub(crate) sender: Sender,
     pub(crate) end: usize,
 }
 
-#[derive(Drop)]
+#[derive(Clone, Copy)]
 pub(crate) struct OpenTurn {
     pub(crate) receiver: Receiver,
     pub(crate) end: usize,
 }
 
-#[derive(Drop)]
+#[derive(Clone, Copy)]
 pub(crate) struct Turn {
     pub(crate) book: Book,
     pub(crate) end: usize,

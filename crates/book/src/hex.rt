@@ -6,7 +6,7 @@ ghost use Rattle.book.specs.Put.{put};
 ghost use Rattle.book.specs.Handed.{read_in, count_in, block, pairs};
 
 // How many octets digits write, or that they write none.
-#[derive(Drop)]
+#[derive(Clone, Copy)]
 pub(crate) enum Read {
     Octets(usize),
     Malformed,

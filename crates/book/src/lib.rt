@@ -1,4 +1,6 @@
 // Document 01's frame book: a text of lines in, a line of answer for each, however the text comes in pieces.
+#![tactic(auto)]
+
 use pieces::MOST_KEPT;
 use rules::{Receiver, Sender};
 
@@ -14,7 +16,7 @@ pub use answer::MOST_ANSWER;
 pub use pieces::{Fed, feed, finish, new_reader};
 
 // Before line 1, after a good one, and after a bad one, which ends the run.
-#[derive(Drop)]
+#[derive(Clone, Copy)]
 pub enum Stage {
     First,
     Going,
@@ -22,7 +24,7 @@ pub enum Stage {
 }
 
 // The book between two lines.
-#[derive(Drop)]
+#[derive(Clone, Copy)]
 pub struct Book {
     // The lines read so far.
     pub lines: u64,
@@ -32,7 +34,7 @@ pub struct Book {
 }
 
 // A book and the front of the line that has not ended yet.
-#[derive(Drop)]
+#[derive(Clone, Copy)]
 pub struct Reader {
     pub book: Book,
     pub line: [u8; MOST_KEPT],

@@ -36,7 +36,7 @@ const PEER_END: usize = PEER_AT + 2 * ADDRESS_OCTETS;
 const DIGITS_AT: usize = 5;
 
 // What a later line asks, the frame being so many octets.
-#[derive(Drop)]
+#[derive(Clone, Copy)]
 pub(crate) enum Request {
     Malformed,
     Seal(usize),
@@ -44,7 +44,7 @@ pub(crate) enum Request {
 }
 
 // What a good line 1 gives; zeros where it is not good.
-#[derive(Drop)]
+#[derive(Clone, Copy)]
 pub(crate) struct Keys {
     pub(crate) good: bool,
     pub(crate) key: [u8; KEY_OCTETS],
@@ -89,16 +89,16 @@ fn is_parted(line: &[u8]) -> bool
     if line.len() != PEER_END {
         return false;
     }
-    if bytes::scan::find(line, 0, PEER_END, TAB) != WORD_END {
+    if octets::find(line, 0, PEER_END, TAB) != WORD_END {
         return false;
     }
-    if bytes::scan::find(line, KEY_AT, PEER_END, TAB) != KEY_END {
+    if octets::find(line, KEY_AT, PEER_END, TAB) != KEY_END {
         return false;
     }
-    if bytes::scan::find(line, KEY_ID_AT, PEER_END, TAB) != KEY_ID_END {
+    if octets::find(line, KEY_ID_AT, PEER_END, TAB) != KEY_ID_END {
         return false;
     }
-    bytes::scan::find(line, OWN_AT, PEER_END, TAB) == OWN_END
+    octets::find(line, OWN_AT, PEER_END, TAB) == OWN_END
 }
 
 fn no_keys() -> Keys

@@ -21,7 +21,7 @@ const LINE_FEED: u8 = 10;
 pub(crate) const MOST_KEPT: usize = MOST_LINE + 1;
 
 // What a piece of text gave: the reader after it, how much of the piece was taken, and how much was written.
-#[derive(Drop)]
+#[derive(Clone, Copy)]
 pub struct Fed {
     pub reader: Reader,
     pub taken: usize,
@@ -61,7 +61,7 @@ fn keep(line: &mut [u8], kept: usize, piece: &[u8], a: usize, e: usize) -> usize
 }
 
 // What a piece gave: the book after its lines, how much is kept of the one that has not ended, and as in Fed.
-#[derive(Drop)]
+#[derive(Clone, Copy)]
 struct Lines {
     book: Book,
     kept: usize,

@@ -8,6 +8,6 @@ pub(crate) fn put_text(text: &[u8], out: &mut [u8], at: usize) -> usize
     ensures value { result ≡ at + length text.now }
     ensures out_after { out.new ≡ put at text.now out.old }
 {
-    let n = bytes::copy(text, &mut out[at..]);
+    let n = octets::copy(text, &mut out[at..]);
     at + n
 }

@@ -1,6 +1,6 @@
 // The search for an octet.
 ghost use Rattle.std.specs.Prelude.{◌≡◌, ◌+◌, ◌≤◌, length, drop, nat_lt};
-ghost use Rattle.bytes.specs.Bytes.{index_of};
+ghost use Rattle.octets.specs.Search.{index_of};
 
 // The first octets are tested one by one, so that a near one is found soon, and the others so many at once.
 const NEAR: usize = 16;
@@ -27,10 +27,10 @@ pub(crate) fn find(s: &[u8], from: usize, x: u8) -> usize
     ensures upper_bound { result ≤ length s.now }
 {
     if s.len() - from < NEAR {
-        return bytes::scan::find(s, from, s.len(), x);
+        return octets::find(s, from, s.len(), x);
     }
     let near = from + NEAR;
-    let first = bytes::scan::find(s, from, near, x);
+    let first = octets::find(s, from, near, x);
     if first < near {
         return first;
     }
@@ -42,5 +42,5 @@ pub(crate) fn find(s: &[u8], from: usize, x: u8) -> usize
         }
         at = end;
     }
-    bytes::scan::find(s, at, s.len(), x)
+    octets::find(s, at, s.len(), x)
 }

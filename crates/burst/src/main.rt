@@ -1,5 +1,7 @@
 // A camera sends four frames in a burst, of which two come late and one twice, to a box with replay windows of 16 and to one with windows
 // of 1. The file stdout has what this prints: for each delivery its number, and what each box answers, 0 for done.
+#![tactic(auto)]
+
 use ccmp::ADDED;
 use rules::{Answer, Receiver, Sender};
 
@@ -10,7 +12,7 @@ const KEY: [u8; 16] = [7; 16];
 const CAMERA: [u8; 6] = *b"\x02cam-1";
 
 // The two boxes' records of the camera.
-#[derive(Drop)]
+#[derive(Clone, Copy)]
 struct Boxes {
     large: Receiver,
     small: Receiver,
@@ -22,7 +24,7 @@ fn meets(size: u8) -> Receiver {
 }
 
 // A sealed frame, and the camera's record after it.
-#[derive(Drop)]
+#[derive(Clone, Copy)]
 struct Sent {
     air: [u8; SEALED],
     sender: Sender,

@@ -1,4 +1,6 @@
 // A camera seals two frames and its access point opens them; a frame that is sent again is refused. The file stdout has what this prints.
+#![tactic(auto)]
+
 use rules::Answer;
 
 // What a call answered: the octets that it wrote, or the number of the refusal.

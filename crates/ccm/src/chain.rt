@@ -33,7 +33,7 @@ fn coded(aad: &[u8]) -> [u8; MOST_DATA + 2]
     let mut out = [0u8; MOST_DATA + 2];
     out[0] = (n / 256) as u8;
     out[1] = (n % 256) as u8;
-    bytes::copy(aad, &mut out[2..n + 2]);
+    octets::copy(aad, &mut out[2..n + 2]);
     out
 }
 

@@ -1,4 +1,6 @@
 // CCM of RFC 3610 with AES-128, a code of 8 octets (M = 8) and lengths of two (L = 2).
+#![tactic(auto)]
+
 mod limits; // limits.rt: the limits, and the code's length
 mod blocks; // blocks.rt: blocks of 16 octets
 mod chain; // chain.rt: section 2.2, authentication
@@ -17,7 +19,7 @@ pub use limits::CODE_OCTETS;
 use limits::{HELD, LEAST_DATA, MOST_DATA, MOST_MESSAGE};
 use stream::{code_of, pass, start, verified};
 
-#[derive(Drop)]
+#[derive(Clone, Copy)]
 pub enum Outcome {
     // The octets written.
     Done(usize),
@@ -46,7 +48,7 @@ fn put(t: &[u64; 256], w: &[u8; 176], nonce: [u8; 13], aad: &[u8], body: &[u8], 
     let first = start(t, w, nonce, aad, n);
     let last = pass(t, w, nonce, 1, 0, first, body, false, &mut out[0..n]);
     let code = code_of(last);
-    bytes::copy(&code[0..CODE_OCTETS], &mut out[n..n + CODE_OCTETS]);
+    octets::copy(&code[0..CODE_OCTETS], &mut out[n..n + CODE_OCTETS]);
 }
 
 // Seals body with nonce and aad into the front of out; the rest of out is kept. A refusal writes nothing.
@@ -89,7 +91,7 @@ fn open_last(
     if !verified(last, &text[n..]) {
         return false;
     }
-    bytes::copy(&part[0..n], &mut out[0..n]);
+    octets::copy(&part[0..n], &mut out[0..n]);
     true
 }
 
@@ -114,7 +116,7 @@ fn open_first(
     if !open_from(t, w, nonce, after, next, &text[HELD..], &mut out[HELD..]) {
         return false;
     }
-    bytes::copy(&part, &mut out[0..HELD]);
+    octets::copy(&part, &mut out[0..HELD]);
     true
 }
 

@@ -2,6 +2,8 @@
 // stdout, was taken from the RFC, section 8: "sealed" is what the vector's output has after its header,
 // "opened" what its input has there. Each text is opened as it is, and with one bit turned over in the
 // text, in the authenticated data and in the nonce.
+#![tactic(auto)]
+
 ghost use Rattle.std.specs.Prelude.{◌≤◌, length};
 
 use ccm::Outcome;

@@ -1,4 +1,6 @@
 // Document 01's frames sealed and opened, proved equal to the rules.
+#![tactic(auto)]
+
 use rules::{Answer, Receiver, Sender};
 
 mod header; // header.rt: the header of a frame
@@ -22,14 +24,14 @@ pub use verdict::{Verdict, header_tests, outside};
 pub use window::{LARGE_WINDOW, SMALL_WINDOW};
 
 // What a call on a sender answers, and the sender afterwards.
-#[derive(Drop)]
+#[derive(Clone, Copy)]
 pub struct Sealed {
     pub answer: Answer,
     pub sender: Sender,
 }
 
 // What a call on a receiver answers, and the receiver afterwards.
-#[derive(Drop)]
+#[derive(Clone, Copy)]
 pub struct Opened {
     pub answer: Answer,
     pub receiver: Receiver,

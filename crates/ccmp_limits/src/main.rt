@@ -1,5 +1,7 @@
 // The limit cases of the frame rules: sizes, room, HT Control, numbers, replays, records, and the order of the tests.
 // What this must print, the file stdout, was taken from document 01 as 02 changes it; ` | 01: ` is the answer that it gives, 0 for done.
+#![tactic(auto)]
+
 ghost use Rattle.std.specs.Prelude.{◌+◌, ◌≤◌, ◌<◌};
 ghost use Rattle.rules.specs.Limits.{most_header, most_body};
 ghost use Rattle.rules.specs.Mode.{added};

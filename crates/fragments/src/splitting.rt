@@ -120,7 +120,7 @@ fn fragment_head(frame: &[u8], h: usize, more: u8, i: u8) -> [u8; MOST_HEADER]
     ensures { take h result ≡ set_fragment (take h frame.now) more i }
 {
     let mut head = [0u8; MOST_HEADER];
-    bytes::copy(&frame[0..h], &mut head);
+    octets::copy(&frame[0..h], &mut head);
     head[1] = frame[1] & 0xfb | more << 2;
     head[22] = frame[22] & 0xf0 | i;
     head

@@ -1,5 +1,7 @@
 // The limit cases of splitting and joining: sizes, messages, numbers, room, records, the order of the tests, and what drops a message.
 // What this must print, the file stdout, was taken from documents 01 and 02; ` | 02: ` is the answer that they give, 0 for done.
+#![tactic(auto)]
+
 ghost use Rattle.std.specs.Prelude.{◌+◌, ◌≤◌, ◌<◌};
 ghost use Rattle.rules.specs.Limits.{most_header, most_message};
 ghost use Rattle.fragments_limits.specs.Space.{space};
@@ -208,7 +210,7 @@ fn splits(
 }
 
 // What became of one sealed fragment: the two records after it, and what joining answered, or opening where that refused it.
-#[derive(Drop)]
+#[derive(Clone, Copy)]
 struct After {
     receiver: Receiver,
     joiner: Joiner,

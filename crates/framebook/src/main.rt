@@ -1,4 +1,6 @@
 // The frame book: standard input to standard output, in large pieces.
+#![tactic(auto)]
+
 ghost use Rattle.std.specs.Prelude.{◌≡◌, ◌≤◌, true, length};
 ghost use Rattle.book.specs.Limits.{most_answer};
 ghost use Rattle.book.specs.Pieces.{after, cut, held, ended, left};
@@ -9,7 +11,7 @@ use libc::{STDERR_FILENO, STDIN_FILENO, STDOUT_FILENO};
 const PIECE: usize = 65536;
 
 // The reader after a piece, and whether its answers could be written.
-#[derive(Drop)]
+#[derive(Clone, Copy)]
 struct Step {
     reader: Reader,
     wrote: bool,

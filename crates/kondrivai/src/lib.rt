@@ -1,5 +1,7 @@
 // What a C host links: sealing and opening on a record that lies in a buffer, and the making of such records. docs/LAYOUT.md has the layout,
 // include/kondrivai.h the calls as C sees them. A slice passes as a pointer and a length.
+#![tactic(auto)]
+
 ghost use Rattle.std.specs.Prelude.{◌≡◌};
 ghost use Rattle.kondrivai.specs.Exports.{seal_number, seal_buffer, seal_room, open_number, open_buffer, open_room, can_hold, fresh_sender_number, fresh_sender_buffer, fresh_receiver_number, fresh_receiver_buffer};
 

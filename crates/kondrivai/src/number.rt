@@ -70,7 +70,7 @@ pub(crate) fn address_at(b: &[u8], i: usize) -> [u8; ADDRESS_OCTETS]
 {
     let mut address = [0u8; ADDRESS_OCTETS];
     let e = i + ADDRESS_OCTETS;
-    bytes::copy(&b[i..e], &mut address);
+    octets::copy(&b[i..e], &mut address);
     address
 }
 
@@ -80,7 +80,7 @@ pub(crate) fn key_at(b: &[u8], i: usize) -> [u8; KEY_OCTETS]
 {
     let mut key = [0u8; KEY_OCTETS];
     let e = i + KEY_OCTETS;
-    bytes::copy(&b[i..e], &mut key);
+    octets::copy(&b[i..e], &mut key);
     key
 }
 
@@ -97,7 +97,7 @@ pub(crate) fn put_octets(s: &[u8], b: &mut [u8], i: usize)
     ensures { take (i + length s.now) b.new ≡ take i b.old ++ s.now }
 {
     let e = i + s.len();
-    bytes::copy(s, &mut b[i..e]);
+    octets::copy(s, &mut b[i..e]);
 }
 
 fn put_two(x: u64, b: &mut [u8], i: usize)

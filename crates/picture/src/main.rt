@@ -1,5 +1,7 @@
 // Two cameras send a picture each, in fragments, to one box that joins them; then, with a third camera, a fragment arrives
 // twice and another is lost. The file stdout has what this prints.
+#![tactic(auto)]
+
 ghost use Rattle.std.specs.Prelude.{◌≤◌, ◌<◌};
 
 use ccmp::ADDED;
@@ -22,7 +24,7 @@ const SEALED: usize = HEADER + SIZE + ADDED;
 const AIR: usize = PICTURE + COUNT * (HEADER + ADDED);
 
 // What the box keeps for one camera.
-#[derive(Drop)]
+#[derive(Clone, Copy)]
 struct Kept {
     receiver: Receiver,
     joiner: Joiner,
@@ -31,7 +33,7 @@ struct Kept {
 // A frame with this header and a picture, whose octet i is i * slope modulo 251.
 fn taken(header: [u8; HEADER], slope: u8) -> [u8; FRAME] {
     let mut frame = [0u8; FRAME];
-    bytes::copy(&header, &mut frame);
+    octets::copy(&header, &mut frame);
     let mut octet: usize = 0;
     let mut i: usize = HEADER;
     while i < FRAME {

@@ -1,5 +1,6 @@
 // The records and answers of documents 01 and 02 as types. Their rules, and what follows from them over whole lists of calls, are
 // in specs/ and proofs/; this crate has no function.
+#![tactic(auto)]
 
 // The octets of a temporal key and of an address, and how many priorities there are.
 pub const KEY_OCTETS: usize = 16;
@@ -15,7 +16,7 @@ pub const ENTRIES: usize = 16;
 pub const MOST_MESSAGE: usize = 2304;
 
 // What a sealing call takes and hands back.
-#[derive(Drop)]
+#[derive(Clone, Copy)]
 pub struct Sender {
     pub key: [u8; KEY_OCTETS],
     pub key_id: u8,
@@ -25,7 +26,7 @@ pub struct Sender {
 }
 
 // What an opening call takes and hands back.
-#[derive(Drop)]
+#[derive(Clone, Copy)]
 pub struct Receiver {
     pub key: [u8; KEY_OCTETS],
     pub key_id: u8,
@@ -40,7 +41,7 @@ pub struct Receiver {
 }
 
 // What a receiver has for one priority.
-#[derive(Drop)]
+#[derive(Clone, Copy)]
 pub struct Window {
     pub size: u8,
     pub greatest: u64,
@@ -48,7 +49,7 @@ pub struct Window {
 }
 
 // How many opening calls were answered so, modulo 2^32.
-#[derive(Drop)]
+#[derive(Clone, Copy)]
 pub struct Counts {
     pub format_errors: u32,
     pub replays: u32,
@@ -57,7 +58,7 @@ pub struct Counts {
 }
 
 // What each call on a table takes and hands back.
-#[derive(Drop)]
+#[derive(Clone, Copy)]
 pub struct Table {
     pub entries: [Entry; ENTRIES],
     // How many opening calls were refused for their format before an entry was looked for, modulo 2^32.
@@ -65,7 +66,7 @@ pub struct Table {
 }
 
 // A sender and a receiver in one, with one key and one key ID. What it holds while it is not in use plays no part.
-#[derive(Drop)]
+#[derive(Clone, Copy)]
 pub struct Entry {
     pub used: bool,
     pub may_send: bool,
@@ -77,7 +78,7 @@ pub struct Entry {
 }
 
 // By what an entry is found.
-#[derive(Drop)]
+#[derive(Clone, Copy)]
 pub struct Triple {
     pub own: [u8; ADDRESS_OCTETS],
     pub peer: [u8; ADDRESS_OCTETS],
@@ -85,7 +86,7 @@ pub struct Triple {
 }
 
 // What is added to a table.
-#[derive(Drop)]
+#[derive(Clone, Copy)]
 pub struct Pairing {
     pub triple: Triple,
     pub key: [u8; KEY_OCTETS],
@@ -96,7 +97,7 @@ pub struct Pairing {
 }
 
 // What a joining call takes and hands back, all zeros where no message is held.
-#[derive(Drop)]
+#[derive(Clone, Copy)]
 pub struct Joiner {
     // The message so far, in the first `length` octets.
     pub held: [u8; MOST_MESSAGE],
@@ -106,7 +107,7 @@ pub struct Joiner {
 }
 
 // By what a fragment is told from others.
-#[derive(Drop)]
+#[derive(Clone, Copy)]
 pub struct Fragment {
     // A2.
     pub address: [u8; ADDRESS_OCTETS],
@@ -119,7 +120,7 @@ pub struct Fragment {
 }
 
 // What a frame says of its own header.
-#[derive(Drop)]
+#[derive(Clone, Copy)]
 pub struct Header {
     // H.
     pub length: usize,
@@ -130,7 +131,7 @@ pub struct Header {
     pub data: usize,
 }
 
-#[derive(Drop)]
+#[derive(Clone, Copy)]
 pub enum Answer {
     // The packet number, the priority and the octets written.
     Done(u64, u8, usize),

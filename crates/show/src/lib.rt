@@ -1,6 +1,8 @@
 // What the programs print: text, numbers, and octets in hexadecimal digits.
 // No contract can say what is printed: it is compared with the program's file stdout. Each function hands back what it
 // was given to print: how many octets, or the number.
+#![tactic(auto)]
+
 ghost use Rattle.std.specs.Prelude.{◌≡◌, length};
 
 use libc::STDOUT_FILENO;

@@ -1,5 +1,7 @@
 // A box serves sixteen cameras through one table, with an entry and a key for each; a frame finds its entry by its addresses and
 // key ID. One camera gets a new key, and one makes room for a seventeenth. The file stdout has what this prints.
+#![tactic(auto)]
+
 use ccmp::ADDED;
 use rules::{Answer, ENTRIES, Pairing, Receiver, Sender, Table, Triple};
 use table::Answered;
@@ -10,14 +12,14 @@ const FRAME: usize = 33;
 const SEALED: usize = FRAME + ADDED;
 
 // What a camera keeps: a sender for its own frames, and a receiver for those of the box.
-#[derive(Drop)]
+#[derive(Clone, Copy)]
 struct Camera {
     sender: Sender,
     receiver: Receiver,
 }
 
 // What the box keeps, and what its cameras keep.
-#[derive(Drop)]
+#[derive(Clone, Copy)]
 struct Site {
     table: Table,
     cameras: [Camera; ENTRIES],

@@ -5,6 +5,8 @@
 // replay counters, counts, size and the bits of the windows, and then its format count. A request is a table, the call's letter (n, a, r, s
 // or o), the pairing's own address, peer, key ID, key, flags and size, the lengths of frame and room, and these two; an answer is four
 // numbers, the table and the room.
+#![tactic(auto)]
+
 ghost use Rattle.std.specs.Prelude.{◌+◌, ◌≤◌, ◌<◌, length};
 
 use ccmp::MOST_BODY;

@@ -1,6 +1,8 @@
 // The limit cases of the table of cameras: each answer of its calls, the order of the tests, places, restarts, flags, counts, and
 // what makes a table unsound.
 // What this must print, the file stdout, was taken from documents 01 and 02; ` | 02: ` is the answer that they give, 0 for done.
+#![tactic(auto)]
+
 ghost use Rattle.std.specs.Prelude.{◌<◌};
 ghost use Rattle.rules.specs.Limits.{table_entries};
 

@@ -2,6 +2,8 @@
 // record's own call. The input is requests of ten octets each, as `tsl000600`: `t` for the table or `r` for the record, or `T`
 // or `R` with windows of 16; `s` to seal or `o` to open; `s` for a short body or `l` for a long one; how many calls, in six
 // digits; a line feed.
+#![tactic(auto)]
+
 ghost use Rattle.std.specs.Prelude.{◌≡◌, ◌+◌, ◌≤◌, length};
 
 use ccmp::{ADDED, LARGE_WINDOW, SMALL_WINDOW};
@@ -52,7 +54,7 @@ fn full_table(window: u8) -> Table {
 // A frame with this header and a long body.
 fn frame_of(header: [u8; HEADER]) -> [u8; LONG] {
     let mut frame = [0x11u8; LONG];
-    bytes::copy(&header, &mut frame);
+    octets::copy(&header, &mut frame);
     frame
 }
 

@@ -2,6 +2,8 @@
 // not sound, and sizes. A window is printed as its greatest number and sixteen marks, for that number and the fifteen below it, 1 where
 // it holds the number; counts are format errors, replays, decrypt errors and opened.
 // What this must print, the file stdout, was taken from documents 01 and 02; ` | 02: ` is the answer that they give, 0 for done.
+#![tactic(auto)]
+
 ghost use Rattle.std.specs.Prelude.{◌<◌};
 
 use ccmp::MOST_NUMBER;

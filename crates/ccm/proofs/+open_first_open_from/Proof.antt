@@ -25,7 +25,7 @@ use Rattle.ccm.proofs.+open_first_open_from.Lts-open_first as open-first-lts
 use Rattle.ccm.proofs.open_from.Reads as open-from
 use Rattle.ccm.proofs.open_from.Kinds as open-from-kinds
 use Rattle.ccm.proofs.+open_first_open_from.Lts-open_from as open-from-lts
-use Rattle.bytes.proofs.copy.Reads as copy-reads
+use Rattle.octets.proofs.copy.Reads as copy-reads
 use Rattle.ccm.proofs.open_last.Reads as open-last-reads
 use Rattle.ccm.proofs.stream.pass.Reads as pass-reads
 use Rattle.ccm.proofs.+open_first_open_from.{statement}

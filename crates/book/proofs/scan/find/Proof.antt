@@ -1,6 +1,6 @@
 -- Up to `at` there is no x, so that the first one from there on is the first of all.
 use Rattle.std.proofs.Common.{◌≡◌, ℕ, ◌+◌, ◌-◌, ◌≤◌, List, length, drop, sym, refl, ap, ◌∙◌, arith, rules}
-use Rattle.bytes.specs.Bytes.{slice, index_of}
+use Rattle.octets.specs.Search.{slice, index_of}
 use Rattle.book.proofs.Parts.{whole_slice}
 use Rattle.book.proofs.Searches.{here, later, lacking}
 use Rattle.book.proofs.scan.find.Statement.{statement}

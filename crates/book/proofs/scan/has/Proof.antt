@@ -1,6 +1,6 @@
 -- After i turns it is whether x is among the first i octets.
 use Rattle.std.proofs.Common.{◌≡◌, ◌-◌, ◌≤◌, Bool, ◌||◌, eqb, length, get_or, take, sym, refl, ap, ◌∙◌, arith, take_all, rules}
-use Rattle.bytes.specs.Bytes.{index_of}
+use Rattle.octets.specs.Search.{index_of}
 use Rattle.book.proofs.Searches.{among, among_turn}
 use Rattle.book.proofs.scan.has.Statement.{statement}
 use Rattle.book.proofs.scan.has.Tie as tie
