@@ -1,0 +1,40 @@
+use mathlib.Core.Path.{◌≡◌, refl, sym, ap₂, ◌∙◌}
+use Prim.Native.Nat.{◌≤◌, ◌-◌, ◌+◌, ◌*◌}
+use native.Mathlib.Omega.{arith}
+use lib.ListN.{length, take, length-set}
+use lib.Seq.{take_all}
+use borrow.Author.Rules.{rules}
+use Rattle.aes.specs.Cipher.{word_at}
+use Rattle.aes.specs.KeyExpansion.{schedule, key_expansion}
+use Rattle.aes.specs.Word.{bytes, Products}
+use Rattle.aes.proofs.Expansion.{copied, whole, at_hand, grown}
+use Rattle.aes.proofs.schedule.expand.Goals as goal
+
+pub loop-k-init : goal.loop-k-init
+loop-k-init c = (omega arith, refl, refl)
+
+pub loop-k-preserved : goal.loop-k-preserved
+loop-k-preserved c =
+    let p = c.loop-k in
+    (omega arith, simp length-set p.invariant.1, copied p.w-1 c.args.t2 p.k (omega arith) (search rules) p.invariant.2)
+
+pub loop-n-init : goal.loop-n-init
+unfolding schedule
+loop-n-init c = (omega arith, c.loop-k.invariant.1, c.word_at_lem.ensures, λ h. refl)
+
+pub loop-n-preserved : goal.loop-n-preserved
+loop-n-preserved c =
+    let l = c.loop-n in (
+      omega arith,
+      simp length-set l.invariant.1,
+      at_hand l.w-1 l.n _ l.invariant.1 (omega arith),
+      λ h. grown l.w-1 l.n _ l.invariant.1 (omega arith) _ l.last (l.invariant.3 h) l.invariant.2 (c.next_word-x.ensures h),
+    )
+
+pub returns : goal.returns
+unfolding key_expansion
+returns c h =
+    let p = c.loop-n in
+    let e : p.n ≡ 40 = omega arith in
+    sym (take_all (4 * p.n + 16) p.w-1 (omega arith)) ∙ p.invariant.3 h
+    ∙ ap₂ (schedule 4) (whole c.loop-k.w-1 c.args.t2 c.loop-k.k (omega arith) (search rules) c.loop-k.invariant.2) e

@@ -1,0 +1,10 @@
+use mathlib.Core.Path.{ap, ◌∙◌}
+use borrow.Author.Rules.{rules}
+use Rattle.bench.specs.Numbers.{padded}
+use Rattle.bench.proofs.frames.bench_fresh_sender.Goals as goal
+
+-- The contract of `fresh_sender`, its answer in four numbers.
+pub returns : goal.returns
+returns c =
+    let fresh = c.fresh_sender-fresh.ensures in
+ record { answer_after = c.parts_of.ensures ∙ ap padded fresh.0; last_after = fresh.1 }

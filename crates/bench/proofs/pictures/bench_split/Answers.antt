@@ -1,0 +1,15 @@
+use mathlib.Core.Path.{ap, ◌∙◌}
+use borrow.Author.Rules.{rules}
+use Rattle.rules.specs.Splitting.{split_answer, split_next, split_output}
+use Rattle.rules.specs.declared.Sender.{Sender}
+use Rattle.bench.specs.Numbers.{padded, parts}
+use Rattle.bench.proofs.pictures.bench_split.Goals as goal
+
+-- The contract of `split` on the record that is made, its answer in four numbers.
+pub returns : goal.returns
+returns c =
+    let a = c.args in
+    let f = a.frame.now in
+    let o = a.out-1.now in
+    let made = c.sender_of-before.ensures in
+    let sealed = c.split-sealed.ensures in record { answer_after = c.parts_of.ensures ∙ ap padded sealed.0 ∙ ap (λ (s : Sender). parts (split_answer s a.size f o)) made; last_after = sealed.1.0 ∙ ap (λ (s : Sender). split_next s a.size f o) made; out_after = sealed.1.1 ∙ ap (λ (s : Sender). split_output s a.size f o) made }

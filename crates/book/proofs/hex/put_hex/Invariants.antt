@@ -1,0 +1,15 @@
+use Rattle.std.proofs.Common.{◌≡◌, ◌+◌, ◌-◌, ◌*◌, ◌≤◌, length, drop, ◌∙◌, arith, length-set, rules}
+use lib.Seq.{sets, drop-length}
+use Rattle.book.specs.Hex.{hex_of}
+use Rattle.book.proofs.Hexadecimals.{length_hex}
+use Rattle.book.proofs.Puts.{stored}
+use Rattle.book.proofs.Turns.{put_turn}
+use Rattle.book.proofs.hex.put_hex.Given as goal
+
+-- Storing the digits that are left into the room so far gives the same after each turn.
+abbrev pub invariant-loop-i : goal.invariant-loop-i
+invariant-loop-i l =
+    (l.i ≤ length l.octets) × (l.end ≡ l.at + 2 * l.i) × (length l.out ≡ length l.initial.out) × (sets l.out l.end (hex_of (drop l.i l.octets)) ≡ sets l.initial.out l.at (hex_of l.octets))
+
+abbrev pub decreases-loop-i : goal.decreases-loop-i
+decreases-loop-i l = length l.octets - l.i

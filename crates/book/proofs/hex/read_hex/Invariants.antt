@@ -1,0 +1,15 @@
+use Rattle.std.proofs.Common.{◌≡◌, ℕ, ◌+◌, ◌-◌, ◌*◌, ◌/◌, ◌≤◌, Bool, cond, ◌&&◌, List, ◌++◌, length, take, drop, sym, refl, ◌∙◌, zero-le, arith, rules}
+use mathlib.Core.Option.{none, some}
+use Rattle.book.specs.Hex.{octets_of}
+use Rattle.book.specs.Handed.{block}
+use Rattle.book.proofs.Turns.{so_far, read_none, read_all, read_odd}
+use Rattle.book.proofs.Blocks.{part_turn}
+use Rattle.book.proofs.hex.read_hex.Given as goal
+
+-- As in read_all, with a part of the digits in each turn, and what is left of them at the end.
+abbrev pub invariant-loop-i : goal.invariant-loop-i
+invariant-loop-i l =
+    (l.i ≤ l.n) × (length l.digits ≡ 2 * l.n) × (length l.out ≡ length l.initial.out) × (octets_of l.digits ≡ so_far l.good (take l.i l.out) (drop (2 * l.i) l.digits))
+
+abbrev pub decreases-loop-i : goal.decreases-loop-i
+decreases-loop-i l = l.n - l.i

@@ -1,0 +1,11 @@
+use Rattle.std.proofs.Common.{◌≡◌, ◌-◌, ◌≤◌, Bool, ◌||◌, eqb, length, get_or, take, sym, refl, ap, ◌∙◌, arith, take_all, rules}
+use Rattle.octets.specs.Search.{index_of}
+use Rattle.book.proofs.Searches.{among, among_turn}
+use Rattle.book.proofs.scan.has.Given as goal
+
+-- After i turns it is whether x is among the first i octets.
+abbrev pub invariant-loop-i : goal.invariant-loop-i
+invariant-loop-i l = (l.i ≤ length l.s) × (l.seen ≡ among l.x (take l.i l.s))
+
+abbrev pub decreases-loop-i : goal.decreases-loop-i
+decreases-loop-i l = length l.s - l.i

@@ -1,0 +1,15 @@
+use mathlib.Core.Path.{ap, ◌∙◌}
+use mathlib.Core.List.{List, ◌∷◌, ◌++◌}
+use Prim.Native.Nat.{ℕ}
+use borrow.Author.Rules.{rules}
+use Rattle.octets.proofs.Lists.{each_all}
+use Rattle.ccm.specs.Blocks.{two_octets}
+use Rattle.ccm.specs.Ccm.{formatted}
+use Rattle.ccm.proofs.blocks.formatted.Goals as goal
+
+-- A nonce of 13 octets is the list of them.
+pub returns : goal.returns
+unfolding formatted two_octets
+returns c =
+    let a = c.args in
+    c.load.ensures ∙ ap (λ (l : List ℕ). a.flags ∷ (l ++ two_octets a.n)) (each_all a.t2 13 (search rules))

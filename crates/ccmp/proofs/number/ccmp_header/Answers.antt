@@ -1,0 +1,7 @@
+use Rattle.std.proofs.Common.{sym, rules}
+use Rattle.ccmp.proofs.Numbers.{header_octets}
+use Rattle.ccmp.proofs.number.ccmp_header.Goals as goal
+
+-- Octet by octet; the one with the key ID is computed at each of the four.
+pub returns : goal.returns
+returns c = sym (header_octets c.args.n c.args.key_id c.requires)

@@ -1,0 +1,19 @@
+use Rattle.std.proofs.Common.{leb, rules}
+use Rattle.octets.proofs.Booleans.{both}
+use Rattle.rules.specs.Limits.{most_key_id}
+use Rattle.rules.specs.Windows.{is_size}
+use Rattle.rules.specs.Records.{receiver_next, count_of}
+use Rattle.rules.proofs.Steps.{sound_parts}
+use Rattle.ccmp.proofs.record.after_opening.Goals as goal
+
+-- The window of the priority is written, and an answer that is done moves the count of opened frames.
+pub next_window-w-requires : goal.next_window-w-requires
+next_window-w-requires c =
+    let r = c.args.r in
+    let sound = sound_parts r c.requires.1 in
+    rw c.window_of.ensures ((both (leb r.key_id most_key_id) (is_size r.size) sound.0).1, sound.1 c.args.p c.requires.0, c.requires.2)
+
+pub returns : goal.returns
+unfolding receiver_next count_of
+returns c k =
+    rw (c.next_window-w.ensures, c.window_of.ensures, c.counts_after-counts.ensures)

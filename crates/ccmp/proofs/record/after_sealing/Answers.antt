@@ -1,0 +1,8 @@
+use Rattle.std.proofs.Common.{refl, rules}
+use Rattle.rules.specs.Records.{sender_next}
+use Rattle.ccmp.proofs.record.after_sealing.Goals as goal
+
+-- Only the last number is written.
+pub returns : goal.returns
+unfolding sender_next
+returns c n p k = refl

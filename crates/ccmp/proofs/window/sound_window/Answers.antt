@@ -1,0 +1,21 @@
+use Rattle.std.proofs.Common.{rules}
+use Rattle.ccmp.proofs.Windows.{sound_empty, unsound_over, unsound_top, sound_rest}
+use Rattle.ccmp.proofs.window.sound_window.Goals as goal
+
+-- Each way out has its law.
+pub returns-then-w-eq0 : goal.returns-then-w-eq0
+returns-then-w-eq0 c = sound_empty c.args.w c.if-w-eq0.true
+
+pub returns-then-w-gt-MOST_NUMBER : goal.returns-then-w-gt-MOST_NUMBER
+returns-then-w-gt-MOST_NUMBER c = unsound_over c.args.w c.if-w-gt-MOST_NUMBER.true
+
+pub returns-then-w-ne1 : goal.returns-then-w-ne1
+returns-then-w-ne1 c =
+    let e₁ = else1 c in
+    unsound_top e₁.args.w e₁.if-w-eq0.left c.if-w-gt-MOST_NUMBER.left c.if-w-ne1.true
+
+pub returns : goal.returns
+returns c =
+    let e₂ = else2 c in
+    let e₁ = else1 e₂ in
+    rw c.places.ensures (sound_rest e₁.args.w e₁.if-w-eq0.left e₂.if-w-gt-MOST_NUMBER.left c.if-w-ne1.false)

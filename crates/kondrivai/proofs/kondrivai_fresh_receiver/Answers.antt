@@ -1,0 +1,47 @@
+use mathlib.Core.Path.{◌≡◌, refl, sym, ap, ◌∙◌}
+use mathlib.Core.Bool.{true}
+use native.Mathlib.Omega.{arith}
+use borrow.Author.Tests.{not-true, not-false}
+use Rattle.rules.specs.Records.{receiver_answer, fresh_receiver}
+use Rattle.rules.specs.Answers.{answer_number}
+use Rattle.rules.proofs.Passing.{told_apart}
+use Rattle.kondrivai.specs.Layout1.{receiver_size, receiver_octets}
+use Rattle.kondrivai.specs.Exports.{can_hold, fresh_receiver_number, fresh_receiver_buffer}
+use Rattle.kondrivai.proofs.Making.{kept, made, buffer_size, key_size}
+use borrow.Author.Rules.{rules}
+use Rattle.kondrivai.proofs.kondrivai_fresh_receiver.Goals as goal
+
+held : (c : goal.Else-not-can_hold) → let a = c.args in can_hold receiver_size a.«record».now a.key.now ≡ true
+held c = sym c.can_hold.ensures ∙ not-false _ c.if-not-can_hold.false
+
+number_is : (c : goal.After-number_of-n) → let a = c.args in c.number_of_lem.result ≡ fresh_receiver_number a.«record».now a.key.now a.key_id a.size
+unfolding fresh_receiver_number
+number_is c =
+    let beneath = c.fresh_receiver-made in
+    let a = c.args in
+    rw (held c) (c.number_of_lem.ensures ∙ ap answer_number (told_apart beneath.result.answer (receiver_answer a.key_id a.size) beneath.ensures.0))
+
+pub returns-then-not-can_hold : goal.returns-then-not-can_hold
+unfolding fresh_receiver_number fresh_receiver_buffer
+returns-then-not-can_hold c = rw (sym c.can_hold.ensures ∙ not-true _ c.if-not-can_hold.true) (refl, refl)
+
+pub key_at-requires : goal.key_at-requires
+key_at-requires c = let a = c.args in omega (arith, key_size receiver_size a.«record».now a.key.now (held c))
+
+pub returns-then-n-ne0 : goal.returns-then-n-ne0
+unfolding fresh_receiver_buffer
+returns-then-n-ne0 c = let is = number_is c in record { value = is; record_after = kept _ _ _ _ is c.if-n-ne0.true }
+
+pub put_receiver-requires : goal.put_receiver-requires
+put_receiver-requires c =
+    buffer_size receiver_size c.args.«record».now c.args.key.now (held c)
+
+pub returns : goal.returns
+unfolding fresh_receiver_buffer
+returns c =
+    let a = c.args in
+    made receiver_size a.«record».now a.key.now (held c) receiver_octets (λ k. fresh_receiver k a.key_id a.peer.now a.size) _ _ (number_is c)
+    c.if-n-ne0.false
+    c.key_at.ensures
+    c.fresh_receiver-made.ensures.receiver_value
+    c.put_receiver.ensures

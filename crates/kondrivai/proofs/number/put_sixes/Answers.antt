@@ -1,0 +1,15 @@
+use Prim.Native.Nat.{◌-◌}
+use Rattle.rules.specs.Limits.{priorities}
+use Rattle.kondrivai.proofs.Numbers.{Written, none_written, one_written, all_written}
+use borrow.Author.Rules.{rules}
+use Rattle.kondrivai.proofs.number.put_sixes.Goals as goal
+
+pub loop-p-init : goal.loop-p-init
+loop-p-init c = let a = c.args in none_written 6 a.i a.t1 a.b-1.now
+
+pub loop-p-preserved : goal.loop-p-preserved
+loop-p-preserved c =
+    one_written c.loop-p.invariant (search rules) c.put_six.new.b (search rules) (search rules) c.put_six.ensures
+
+pub returns : goal.returns
+returns c = all_written c.loop-p.invariant (search rules) (search rules)

@@ -1,0 +1,13 @@
+use mathlib.Core.Path.{refl}
+use Prim.Native.Nat.{◌-◌}
+use Rattle.rules.specs.Limits.{priorities}
+use Rattle.kondrivai.proofs.Numbers.{Filled, one_filled, all_filled}
+use borrow.Author.Rules.{rules}
+use Rattle.kondrivai.proofs.number.sixes_at.Given as goal
+
+-- After p turns the first p numbers are there.
+abbrev pub invariant-loop-p : goal.invariant-loop-p
+invariant-loop-p l = Filled 6 l.i l.b l.initial.xs l.xs l.p
+
+abbrev pub decreases-loop-p : goal.decreases-loop-p
+decreases-loop-p l = priorities - l.p

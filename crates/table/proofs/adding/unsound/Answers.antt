@@ -1,0 +1,8 @@
+use mathlib.Core.Path.{ap}
+use mathlib.Core.Bool.{not}
+use borrow.Author.Rules.{rules}
+use Rattle.table.proofs.adding.unsound.Goals as goal
+
+-- What soundness is not.
+pub returns : goal.returns
+returns c = ap not c.sound_table.ensures

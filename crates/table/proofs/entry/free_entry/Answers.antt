@@ -1,0 +1,6 @@
+use borrow.Author.Rules.{rules}
+use Rattle.table.proofs.entry.free_entry.Goals as goal
+
+-- The receiver is the one of zeros.
+pub returns : goal.returns
+returns c = rw c.new_receiver-receiver.ensures

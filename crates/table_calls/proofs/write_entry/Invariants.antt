@@ -1,0 +1,12 @@
+use mathlib.Core.Path.{◌≡◌}
+use lib.ListN.{length}
+use Prim.Native.Nat.{ℕ, ◌-◌, ◌≤◌}
+use borrow.Author.Rules.{rules}
+use Rattle.table_calls.proofs.write_entry.Given as goal
+
+-- Every octet is written.
+abbrev pub invariant-loop-i : goal.invariant-loop-i
+invariant-loop-i l = (l.i ≤ 217) × (length l.b ≡ 217)
+
+abbrev pub decreases-loop-i : goal.decreases-loop-i
+decreases-loop-i l = 217 - l.i
