@@ -27,10 +27,10 @@ pub returns-then-not-in_limits : goal.returns-then-not-in_limits
 returns-then-not-in_limits c =
     let a = c.args in
     open_limits (aes128 a.key) (length_aes128 a.key) code_octets (lit≤ tt) a.nonce a.aad.now a.out-1.now a.text.now c.if-text-lt-CODE_OCTETS.false
-    (sym c.in_limits_lem.ensures ∙ not-true _ c.if-not-in_limits.true)
+    (sym c.in_limits.ensures ∙ not-true _ c.if-not-in_limits.true)
 
 limits : (c : goal.Else-not-in_limits) → let a = c.args in in_limits (length a.aad.now) (length a.text.now - code_octets) ≡ true
-limits c = sym c.in_limits_lem.ensures ∙ not-false _ c.if-not-in_limits.false
+limits c = sym c.in_limits.ensures ∙ not-false _ c.if-not-in_limits.false
 
 pub returns-then-out-n : goal.returns-then-out-n
 returns-then-out-n c =

@@ -75,8 +75,8 @@ right_is c =
 pub returns-then-not-verified : goal.returns-then-not-verified
 returns-then-not-verified c = record { value = sym (sym (right_is c) ∙ not-true _ c.if-not-verified.true); out_after = refl }
 
-pub slice-bounds-copy-end : goal.slice-bounds-copy-end
-slice-bounds-copy-end c = simp length-append (omega (arith, length_front c))
+pub slice_bounds-copy-end : goal.slice_bounds-copy-end
+slice_bounds-copy-end c = simp length-append (omega (arith, length_front c))
 
 pub returns : goal.returns
 returns c =

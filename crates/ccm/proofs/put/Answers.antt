@@ -28,7 +28,7 @@ returns c =
     let ly : length ys ≡ n = ap length c.pass-last.ensures.out_after ∙ length_masked E (length_cipher 10 a.w.now) a.nonce 1 m in
     let e₀ : n - 0 ≡ n = omega arith in
     let eₘ : n + code_octets - n ≡ code_octets = omega arith in
-    let code = code_is E code_octets a.nonce a.aad.now m _ _ _ n refl c.start-first.ensures.second_value c.pass-last.ensures.second_value (c.code_of_lem.ensures ∙ ap (xors (take code_octets (bytes_of c.pass-last.result.second))) c.pass-last.ensures.first_value) in
+    let code = code_is E code_octets a.nonce a.aad.now m _ _ _ n refl c.start-first.ensures.second_value c.pass-last.ensures.second_value (c.code_of-code.ensures ∙ ap (xors (take code_octets (bytes_of c.pass-last.result.second))) c.pass-last.ensures.first_value) in
     ap₂ (λ (j k : ℕ). take n (ys ++ drop j out) ++ (zs ++ drop k (drop n (ys ++ drop j out)))) e₀ eₘ
     ∙ put_both out ys zs n code_octets ly
     ∙ ap₂ (λ (p q : List ℕ). (p ++ q) ++ drop (n + code_octets) out) c.pass-last.ensures.out_after (c.copy.ensures.copied ∙ laid_all _ _ (simp length-take (omega arith)) ∙ code)

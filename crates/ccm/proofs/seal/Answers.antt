@@ -19,7 +19,7 @@ pub returns-then-not-in_limits : goal.returns-then-not-in_limits
 returns-then-not-in_limits c =
     let a = c.args in
     seal_limits (aes128 a.key) (length_aes128 a.key) code_octets (lit≤ tt) a.nonce a.aad.now a.out-1.now a.body.now
-    (sym c.in_limits_lem.ensures ∙ not-true _ c.if-not-in_limits.true)
+    (sym c.in_limits.ensures ∙ not-true _ c.if-not-in_limits.true)
 
 pub returns-then-out-n : goal.returns-then-out-n
 returns-then-out-n c =
@@ -28,7 +28,7 @@ returns-then-out-n c =
 
 pub put-requires : goal.put-requires
 put-requires c =
-    let h = in_limits_lem _ _ (sym c.in_limits_lem.ensures ∙ not-false _ c.if-not-in_limits.false) in
+    let h = in_limits_lem _ _ (sym c.in_limits.ensures ∙ not-false _ c.if-not-in_limits.false) in
     (h.1, h.2, c.if-out-n.false, c.fill_products.ensures)
 
 pub returns : goal.returns
@@ -40,5 +40,5 @@ returns c =
     let out = a.out-1.now in
     let cipher-is = ap (cipher 10) (c.expand-w.ensures c.fill_products.ensures) ∙ sym (aes128_is a.key) in
     seal_done (aes128 a.key) (length_aes128 a.key) code_octets (lit≤ tt) N A out m
-    (sym c.in_limits_lem.ensures ∙ not-false _ c.if-not-in_limits.false) c.if-out-n.false _
+    (sym c.in_limits.ensures ∙ not-false _ c.if-not-in_limits.false) c.if-out-n.false _
     (c.put.ensures ∙ ap (λ (F : List ℕ → List ℕ). (masked F N 1 m ++ U F code_octets N A m) ++ drop (length m + code_octets) out) cipher-is)

@@ -14,12 +14,12 @@ use Rattle.kondrivai.proofs.kondrivai_fresh_sender.Goals as goal
 held : (c : goal.Else-not-can_hold) → let a = c.args in can_hold sender_size a.«record».now a.key.now ≡ true
 held c = sym c.can_hold.ensures ∙ not-false _ c.if-not-can_hold.false
 
-number_is : (c : goal.After-number_of-n) → let a = c.args in c.number_of_lem.result ≡ fresh_sender_number a.«record».now a.key.now a.key_id
+number_is : (c : goal.After-number_of-n) → let a = c.args in c.number_of-n.result ≡ fresh_sender_number a.«record».now a.key.now a.key_id
 unfolding fresh_sender_number
 number_is c =
     let beneath = c.fresh_sender-made in
     let a = c.args in
-    rw (held c) (c.number_of_lem.ensures ∙ ap answer_number (told_apart beneath.result.answer (fresh_answer a.key_id) beneath.ensures.0))
+    rw (held c) (c.number_of-n.ensures ∙ ap answer_number (told_apart beneath.result.answer (fresh_answer a.key_id) beneath.ensures.0))
 
 pub returns-then-not-can_hold : goal.returns-then-not-can_hold
 unfolding fresh_sender_number fresh_sender_buffer

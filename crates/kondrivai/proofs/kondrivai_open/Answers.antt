@@ -31,5 +31,5 @@ returns c =
     rw (held c)
     (called (λ r. open_answer r f o) (λ r. open_next r f o) receiver_octets (λ r. open_output r f o) beneath.result.answer c.get_receiver.ensures
     beneath.ensures
-    c.number_of_lem.ensures
+    c.number_of.ensures
     c.put_receiver.ensures)

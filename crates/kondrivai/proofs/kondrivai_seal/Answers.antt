@@ -31,5 +31,5 @@ returns c =
     rw (held c)
     (called (λ s. seal_answer s f o) (λ s. seal_next s f o) sender_octets (λ s. seal_output s f o) beneath.result.answer c.get_sender.ensures
     beneath.ensures
-    c.number_of_lem.ensures
+    c.number_of.ensures
     c.put_sender.ensures)

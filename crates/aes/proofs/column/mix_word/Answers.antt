@@ -11,7 +11,7 @@ use Rattle.aes.proofs.column.mix_word.Goals as goal
 pub returns : goal.returns
 unfolding sub_word
 returns c h =
-    mixed _ _ _ _ _ _ _ _ (ap bytes c.low_half_lem.ensures ∙ turned_0 _ _ (octet_sbox _) (h.entry _ (search rules)))
+    mixed _ _ _ _ _ _ _ _ (ap bytes c.low_half.ensures ∙ turned_0 _ _ (octet_sbox _) (h.entry _ (search rules)))
     (ap bytes c.low_half-2.ensures ∙ turned_3 _ _ (octet_sbox _) (h.entry _ (search rules)))
     (ap bytes c.low_half-3.ensures ∙ turned_2 _ _ (octet_sbox _) (h.entry _ (search rules)))
     (ap bytes c.low_half-4.ensures ∙ turned_1 _ _ (octet_sbox _) (h.entry _ (search rules)))

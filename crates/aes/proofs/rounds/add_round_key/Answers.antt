@@ -11,5 +11,5 @@ pub returns : goal.returns
 unfolding add_round_key xor_word
 returns c =
     let s = c.args.s in
-    columns_are (added s.a _ refl c.word_at_lem.ensures) (added s.b _ refl c.word_at-2.ensures)
+    columns_are (added s.a _ refl c.word_at.ensures) (added s.b _ refl c.word_at-2.ensures)
     (added s.c _ refl c.word_at-3.ensures) (added s.d _ refl c.word_at-4.ensures)

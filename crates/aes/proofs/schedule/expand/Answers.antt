@@ -20,7 +20,7 @@ loop-k-preserved c =
 
 pub loop-n-init : goal.loop-n-init
 unfolding schedule
-loop-n-init c = (omega arith, c.loop-k.invariant.1, c.word_at_lem.ensures, λ h. refl)
+loop-n-init c = (omega arith, c.loop-k.invariant.1, c.word_at-last.ensures, λ h. refl)
 
 pub loop-n-preserved : goal.loop-n-preserved
 loop-n-preserved c =

@@ -3,8 +3,8 @@ use Rattle.book.specs.Decimal.{decimal}
 use Rattle.book.proofs.Decimals.{length_decimal, decimal_small, decimal_more}
 use Rattle.book.proofs.decimal.places.Goals as goal
 
-pub overflow-add-count : goal.overflow-add-count
-overflow-add-count c = omega (arith, length_decimal c.args.n)
+pub overflow_add-count : goal.overflow_add-count
+overflow_add-count c = omega (arith, length_decimal c.args.n)
 
 pub loop-rest-preserved : goal.loop-rest-preserved
 loop-rest-preserved c =

@@ -5,11 +5,11 @@ use Rattle.book.proofs.Decimals.{length_decimal, decimal_small, decimal_more}
 use Rattle.book.proofs.Puts.{stored, put_last}
 use Rattle.book.proofs.decimal.put_decimal.Goals as goal
 
-pub overflow-add-end : goal.overflow-add-end
-overflow-add-end c = omega (arith, length_decimal c.args.n)
+pub overflow_add-end : goal.overflow_add-end
+overflow_add-end c = omega (arith, length_decimal c.args.n)
 
-pub overflow-sub-i : goal.overflow-sub-i
-overflow-sub-i c = omega (arith, length_decimal c.loop-rest.rest)
+pub overflow_sub-i : goal.overflow_sub-i
+overflow_sub-i c = omega (arith, length_decimal c.loop-rest.rest)
 
 pub bounds-out-i : goal.bounds-out-i
 bounds-out-i c = omega (arith, length_decimal c.loop-rest.rest)

@@ -23,8 +23,8 @@ module _ (c : goal.In-loop-i) where
   pair_is : (pair % 256 ≡ get_or digits (2 * i) 0) × (pair / 256 ≡ get_or digits (2 * i + 1) 0)
   pair_is = pair_digits digits _ i c.pairs_of-pairs.ensures (omega arith) (octet (2 * i))
 
-pub overflow-cast-digit-of-2 : goal.overflow-cast-digit-of-2
-overflow-cast-digit-of-2 c = let p = (pair_is c).1 in let o = octet c (2 * i c + 1) in search rules
+pub overflow_cast-pairs-in-loop-i : goal.overflow_cast-pairs-in-loop-i
+overflow_cast-pairs-in-loop-i c = let p = (pair_is c).1 in let o = octet c (2 * i c + 1) in search rules
 
 pub loop-i-preserved : goal.loop-i-preserved
 loop-i-preserved c =

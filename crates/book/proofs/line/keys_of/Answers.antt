@@ -18,15 +18,15 @@ pub returns-then-not-is_parted : goal.returns-then-not-is_parted
 returns-then-not-is_parted c =
     refused c.no_keys.result _ c.no_keys.ensures (λ e. never (sym (not-true _ c.if-not-is_parted.true) ∙ c.is_parted.ensures.value e))
 
-pub slice-bounds-equal-end : goal.slice-bounds-equal-end
-slice-bounds-equal-end c = let z = size c in search rules
+pub slice_bounds-equal-end : goal.slice_bounds-equal-end
+slice_bounds-equal-end c = let z = size c in search rules
 
 pub returns-then-not-equal : goal.returns-then-not-equal
 returns-then-not-equal c =
     refused c.no_keys-then-not-equal.result _ c.no_keys-then-not-equal.ensures (wrong_word (L c) (tabs c) (sym c.equal.ensures ∙ not-true _ c.if-not-equal.true))
 
-pub slice-bounds-read-all-end : goal.slice-bounds-read-all-end
-slice-bounds-read-all-end c = let z = size c in search rules
+pub slice_bounds-read_all-end : goal.slice_bounds-read_all-end
+slice_bounds-read_all-end c = let z = size c in search rules
 
 pub returns-then-not-read_all : goal.returns-then-not-read_all
 returns-then-not-read_all c =
@@ -39,15 +39,15 @@ pub returns-then-key_id-gt-MOST_KEY_ID : goal.returns-then-key_id-gt-MOST_KEY_ID
 returns-then-key_id-gt-MOST_KEY_ID c =
     refused c.no_keys-then-key_id-gt-MOST_KEY_ID.result _ c.no_keys-then-key_id-gt-MOST_KEY_ID.ensures (wrong_id (L c) (tabs c) (omega (arith, c.if-key_id-gt-MOST_KEY_ID.true, c.digit_of-key_id.ensures)))
 
-pub slice-bounds-read-all-end-2 : goal.slice-bounds-read-all-end-2
-slice-bounds-read-all-end-2 c = let z = size c in search rules
+pub slice_bounds-read_all-end-3 : goal.slice_bounds-read_all-end-3
+slice_bounds-read_all-end-3 c = let z = size c in search rules
 
 pub returns-then-not-read_all-2 : goal.returns-then-not-read_all-2
 returns-then-not-read_all-2 c =
     refused c.no_keys-then-not-read_all-2.result _ c.no_keys-then-not-read_all-2.ensures (wrong_own (L c) (tabs c) (sym c.read_all-2.ensures.value ∙ not-true _ c.if-not-read_all-2.true))
 
-pub slice-bounds-read-all-end-3 : goal.slice-bounds-read-all-end-3
-slice-bounds-read-all-end-3 c = let z = size c in search rules
+pub slice_bounds-read_all-end-5 : goal.slice_bounds-read_all-end-5
+slice_bounds-read_all-end-5 c = let z = size c in search rules
 
 pub returns-then-not-read_all-3 : goal.returns-then-not-read_all-3
 returns-then-not-read_all-3 c =

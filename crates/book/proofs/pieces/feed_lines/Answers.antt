@@ -184,7 +184,7 @@ pub loop-at-preserved-in-Seal : goal.loop-at-preserved-in-Seal
 loop-at-preserved-in-Seal c = (
   search rules,
   search rules,
-  let p = c.seal_line_lem.ensures in
+  let p = c.seal_line-turn.ensures in
       next (fed c) _ (line-is-taken (fed c)) (omega (arith, ahead (fed c))) _ _ _ (search rules) (sealed_left (b c) (text c) (going c) (written c) (o c) (number c) (numbered c) _ _ _ (asks c _ c.k-1.given.1) _ p.0 p.1.0 p.1.1),
 
 )
@@ -205,7 +205,7 @@ pub loop-at-preserved-in-Open : goal.loop-at-preserved-in-Open
 loop-at-preserved-in-Open c = (
   search rules,
   search rules,
-  let p = c.open_line_lem.ensures in
+  let p = c.open_line-turn.ensures in
       next (fed c) _ (line-is-taken (fed c)) (omega (arith, ahead (fed c))) _ _ _ (search rules) (opened_left (b c) (text c) (going c) (written c) (o c) (number c) (numbered c) _ _ _ (asks c _ c.k-in-Open-1.given.1) _ p.0 p.1.0 p.1.1),
 
 )
@@ -221,8 +221,8 @@ loop-at-preserved c = (
 
 )
 
-pub overflow-add-at : goal.overflow-add-at
-overflow-add-at c = let a = ahead c in search rules
+pub overflow_add-at : goal.overflow_add-at
+overflow_add-at c = let a = ahead c in search rules
 
 pub returns-else-out-written-ge-MOST_ANSWER : goal.returns-else-out-written-ge-MOST_ANSWER
 returns-else-out-written-ge-MOST_ANSWER c =

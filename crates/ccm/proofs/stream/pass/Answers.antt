@@ -30,11 +30,11 @@ loop-at-init c =
       ap (λ (j : ℕ). chain E (bytes_of a.from.second) (blocks (cond a.opening (masked E a.nonce j s) s))) e,
     )
 
-pub overflow-add-counter : goal.overflow-add-counter
-overflow-add-counter c = omega (arith, c.loop-at-test.true, c.loop-at.invariant.2)
+pub overflow_add-at : goal.overflow_add-at
+overflow_add-at c = omega (arith, c.loop-at-test.true, c.loop-at.invariant.2)
 
-pub overflow-add-counter-3 : goal.overflow-add-counter-3
-overflow-add-counter-3 c = omega (arith, c.loop-at-test.true, c.loop-at.invariant.2)
+pub overflow_add-at-in-loop-at-2 : goal.overflow_add-at-in-loop-at-2
+overflow_add-at-in-loop-at-2 c = omega (arith, c.loop-at-test.true, c.loop-at.invariant.2)
 
 pub formatted-requires : goal.formatted-requires
 formatted-requires c =
@@ -42,8 +42,8 @@ formatted-requires c =
     let a = c.args in
     counter_most (length a.s.now) (l.at + 16) _ a.after _ most_two_octets c.counter-next.ensures (omega (arith, c.loop-at-test.true, l.invariant.2)) c.requires.1
 
-pub overflow-add-at : goal.overflow-add-at
-overflow-add-at c = omega (arith, c.loop-at-test.true, c.loop-at.invariant.2)
+pub overflow_add-at-in-loop-at-3 : goal.overflow_add-at-in-loop-at-3
+overflow_add-at-in-loop-at-3 c = omega (arith, c.loop-at-test.true, c.loop-at.invariant.2)
 
 pub loop-at-smaller : goal.loop-at-smaller
 loop-at-smaller c = omega (arith, c.loop-at-test.true)

@@ -8,4 +8,4 @@ use Rattle.ccm.proofs.stream.verified.Goals as goal
 -- The front of what `code_of` gives is the code.
 pub returns : goal.returns
 returns c =
-    c.equal.ensures ∙ ap (λ (u : List ℕ). same u c.args.code.now) c.code_of_lem.ensures
+    c.equal.ensures ∙ ap (λ (u : List ℕ). same u c.args.code.now) c.code_of-right.ensures

@@ -5,13 +5,13 @@ use Rattle.ccmp.proofs.Headers.{with_qos, without_qos}
 use Rattle.ccmp.proofs.header.header_of.Goals as goal
 
 -- b7 says whether QoS Control is present, and b15 then whether HT Control is.
-pub overflow-add-t4 : goal.overflow-add-t4
+pub overflow_add-result : goal.overflow_add-result
 unfolding qos_place
-overflow-add-t4 c = record { fits = omega (arith, c.qos_place-qos.ensures) }
+overflow_add-result c = record { fits = omega (arith, c.qos_place-qos.ensures) }
 
-pub overflow-add-t6 : goal.overflow-add-t6
+pub overflow_add-result-then-has_qos : goal.overflow_add-result-then-has_qos
 unfolding qos_place
-overflow-add-t6 c = record { fits = omega (arith, c.qos_place-qos.ensures, c.ht_octets.ensures) }
+overflow_add-result-then-has_qos c = record { fits = omega (arith, c.qos_place-qos.ensures, c.ht_octets.ensures) }
 
 pub returns-then-has_qos : goal.returns-then-has_qos
 returns-then-has_qos c =
@@ -19,9 +19,9 @@ returns-then-has_qos c =
     with_qos f c.qos_place-qos.result c.qos_place-qos.ensures c.ht_octets.result c.octet_at.result
     (eqb-true (qos f) 1 (sym c.has_qos.ensures ∙ c.if-has_qos.true)) c.ht_octets.ensures c.octet_at.ensures (search rules)
 
-pub overflow-sub-t9 : goal.overflow-sub-t9
+pub overflow_sub-result : goal.overflow_sub-result
 unfolding qos_place
-overflow-sub-t9 c = omega (arith, c.qos_place-qos.ensures)
+overflow_sub-result c = omega (arith, c.qos_place-qos.ensures)
 
 pub returns : goal.returns
 returns c =

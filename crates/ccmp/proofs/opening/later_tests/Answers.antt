@@ -61,32 +61,32 @@ ext c =
 id_is : (c : goal.Else-octet-r) → let s = c in eqb (key_id_in (ccmp_of (F s))) s.args.r.key_id ≡ true
 id_is c = let s = c in id_same (F s) s.args.header.length (fields s).length_is _ c.if-octet-r.false
 
-pub overflow-sub-outside : goal.overflow-sub-outside
-overflow-sub-outside c = omega (arith, (fields c).length_is, (head c).whole)
+pub overflow_sub-frame : goal.overflow_sub-frame
+overflow_sub-frame c = omega (arith, (fields c).length_is, (head c).whole)
 
 pub returns-then-outside : goal.returns-then-outside
 returns-then-outside c =
     let h = head c in
     rw (c.requires.0, h.short, h.kind, h.mark, h.cut, body_is c ∙ c.if-outside.true)
 
-pub overflow-sub-if2 : goal.overflow-sub-if2
-overflow-sub-if2 c = omega (arith, long c)
+pub overflow_sub-frame-2 : goal.overflow_sub-frame-2
+overflow_sub-frame-2 c = omega (arith, long c)
 
 pub returns-then-room-frame : goal.returns-then-room-frame
 returns-then-room-frame c =
     let h = head c in
     rw (c.requires.0, h.short, h.kind, h.mark, h.cut, within c, lt-ltb _ _ c.if-room-frame.true)
 
-pub slice-bounds-equal-end : goal.slice-bounds-equal-end
-slice-bounds-equal-end c = omega (arith, (head c).long)
+pub slice_bounds-equal-end : goal.slice_bounds-equal-end
+slice_bounds-equal-end c = omega (arith, (head c).long)
 
 pub returns-then-not-equal : goal.returns-then-not-equal
 returns-then-not-equal c =
     let h = head c in
     rw (c.requires.0, h.short, h.kind, h.mark, h.cut, within c, room_holds c, peer_is c ∙ not-true _ c.if-not-equal.true)
 
-pub overflow-add-octet : goal.overflow-add-octet
-overflow-add-octet c =
+pub overflow_add-octet : goal.overflow_add-octet
+overflow_add-octet c =
     record { fits = omega (arith, (fields c).length_is, header_range (F c)) }
 
 pub bounds-frame-h : goal.bounds-frame-h

@@ -64,8 +64,8 @@ after_opening-next-requires c =
       rw ((fields c).priority_is, c.number_at-n.ensures) (openable c).true,
     )
 
-pub overflow-sub-t20 : goal.overflow-sub-t20
-overflow-sub-t20 c =
+pub overflow_sub-result : goal.overflow_sub-result
+overflow_sub-result c =
     let q = openable c in
     omega (arith, q.least, q.whole)
 

@@ -39,11 +39,11 @@ nonce_of-nonce-requires c = omega (arith, long c, (fields c).length_is, header_r
 pub authenticated_data-data-requires : goal.authenticated_data-data-requires
 authenticated_data-data-requires c = (c.requires.0, c.requires.2.whole)
 
-pub overflow-add-text : goal.overflow-add-text
-overflow-add-text c = record { fits = omega (arith, (fields c).length_is, header_range (F c)) }
+pub overflow_add-text : goal.overflow_add-text
+overflow_add-text c = record { fits = omega (arith, (fields c).length_is, header_range (F c)) }
 
-pub slice-bounds-put-body-end : goal.slice-bounds-put-body-end
-slice-bounds-put-body-end c = omega (arith, (fields c).data_is, data_range (F c))
+pub slice_bounds-put_body-end : goal.slice_bounds-put_body-end
+slice_bounds-put_body-end c = omega (arith, (fields c).data_is, data_range (F c))
 
 pub put_body-requires : goal.put_body-requires
 put_body-requires c =

@@ -36,5 +36,5 @@ returns-in_default-2 c =
 pub returns-in_default-3 : goal.returns-in_default-3
 unfolding count_of
 returns-in_default-3 c =
-    let known = c.in-10.rest in
+    let known = c.in_default-1.rest in
     moves 12 244 0 tt c.args.refusal (past c.args.refusal c.if-refusal-lt10.false known.0.1 known.1) c.ranges.refusal.fits

@@ -54,8 +54,8 @@ returns-then-outside c =
     let h = head c in
     rw (c.requires.0, h.short, h.kind, h.mark, h.cut, body_is c ∙ c.if-outside.true)
 
-pub overflow-add-if2-2 : goal.overflow-add-if2-2
-overflow-add-if2-2 c =
+pub overflow_add-head-2 : goal.overflow_add-head-2
+overflow_add-head-2 c =
     let f = F c in
     record { fits = omega (arith, inside least_body most_body (length f - header_length f) (within c), header_range f, size c, (head c).whole) }
 
@@ -64,8 +64,8 @@ returns-then-room-head c =
     let h = head c in
     rw (c.requires.0, h.short, h.kind, h.mark, h.cut, within c, lt-ltb c.args.room (length (F c) + added) (omega (arith, c.if-room-head.true, size c)))
 
-pub slice-bounds-equal-end : goal.slice-bounds-equal-end
-slice-bounds-equal-end c = omega (arith, exact c, header_range c.args.head.now)
+pub slice_bounds-equal-end : goal.slice_bounds-equal-end
+slice_bounds-equal-end c = omega (arith, exact c, header_range c.args.head.now)
 
 pub returns-then-not-equal : goal.returns-then-not-equal
 returns-then-not-equal c =

@@ -47,11 +47,11 @@ nonce_of-nonce-requires c = (head c).long
 pub authenticated_data-data-requires : goal.authenticated_data-data-requires
 authenticated_data-data-requires c = let h = head c in (h.is, h.whole)
 
-pub overflow-add-text : goal.overflow-add-text
-overflow-add-text c = record { fits = omega (arith, (fields c).length_is, header_range (F c)) }
+pub overflow_add-text : goal.overflow_add-text
+overflow_add-text c = record { fits = omega (arith, (fields c).length_is, header_range (F c)) }
 
-pub slice-bounds-put-text-end : goal.slice-bounds-put-text-end
-slice-bounds-put-text-end c = omega (arith, (fields c).data_is, data_range (F c))
+pub slice_bounds-put_text-end : goal.slice_bounds-put_text-end
+slice_bounds-put_text-end c = omega (arith, (fields c).data_is, data_range (F c))
 
 pub put_text-requires : goal.put_text-requires
 put_text-requires c =
@@ -71,8 +71,8 @@ ccmp_header-ccmp-requires c = c.requires.1.id_fits
 abbrev Y : goal.After-put_text → List ℕ
 Y c = c.put_text.new.out
 
-pub slice-bounds-copy-end : goal.slice-bounds-copy-end
-slice-bounds-copy-end c =
+pub slice_bounds-copy-end-2 : goal.slice_bounds-copy-end-2
+slice_bounds-copy-end-2 c =
     omega (arith, length_replaced c.args.out-1.now (Y c) (c.args.header.length + ccmp_octets) (room c))
 
 pub put_header-requires : goal.put_header-requires

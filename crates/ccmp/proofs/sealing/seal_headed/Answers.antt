@@ -36,8 +36,8 @@ passed c =
 sealable : (c : goal.After-struct_known-1) → let t = c in Sealable (S t) (F t) × (length (F t) + added ≤ length (O t))
 sealable c = let t = c in seal_passes (S t) (F t) (length (O t)) (passed c)
 
-pub overflow-add-n : goal.overflow-add-n
-overflow-add-n c = record { fits = omega (arith, (sealable c).0.unspent) }
+pub overflow_add-n : goal.overflow_add-n
+overflow_add-n c = record { fits = omega (arith, (sealable c).0.unspent) }
 
 pub put_sealed-requires : goal.put_sealed-requires
 put_sealed-requires c =
@@ -47,8 +47,8 @@ put_sealed-requires c =
 pub after_sealing-next-requires : goal.after_sealing-next-requires
 after_sealing-next-requires c = omega (arith, (sealable c).0.unspent)
 
-pub overflow-add-t19 : goal.overflow-add-t19
-overflow-add-t19 c =
+pub overflow_add-result-in-Pass : goal.overflow_add-result-in-Pass
+overflow_add-result-in-Pass c =
     let q = (sealable c).0 in
     record { fits = omega (arith, q.whole, q.most, header_range (F c), size c) }
 

@@ -10,18 +10,18 @@ late c =
     let s = c in
     late_below s.args.w s.args.n s.requires.0 s.requires.2 c.if-n-w.true
 
-pub overflow-cast-v : goal.overflow-cast-v
-overflow-cast-v c = record { fits = omega (arith, late c) }
+pub overflow_cast-v : goal.overflow_cast-v
+overflow_cast-v c = record { fits = omega (arith, late c) }
 
-pub overflow-shl-v : goal.overflow-shl-v
-overflow-shl-v c = late c
+pub overflow_shl-v : goal.overflow_shl-v
+overflow_shl-v c = late c
 
 pub returns-then-n-w : goal.returns-then-n-w
 returns-then-n-w c =
     next_late c.args.w c.args.n c.requires.0 c.requires.2 c.if-n-w.true c.requires.1
 
-pub overflow-shl-v-2 : goal.overflow-shl-v-2
-overflow-shl-v-2 c =
+pub overflow_shl-v-then-up-w : goal.overflow_shl-v-then-up-w
+overflow_shl-v-then-up-w c =
     omega (arith, c.if-up-w.true, size_range c.args.w.size c.requires.0)
 
 pub returns-then-up-w : goal.returns-then-up-w

@@ -33,8 +33,8 @@ unfolding follows
 returns-then-y-x-2 c =
     rw (same_is c, priority_is c, ne_eqb _ _ c.if-y-x-2.true)
 
-pub overflow-add-if4 : goal.overflow-add-if4
-overflow-add-if4 c =
+pub overflow_add-x : goal.overflow_add-x
+overflow_add-x c =
     record { fits = omega (arith, narrow_next c.args.x c.requires) }
 
 pub returns-then-y-x-3 : goal.returns-then-y-x-3
@@ -42,8 +42,8 @@ unfolding follows
 returns-then-y-x-3 c =
     rw (same_is c, priority_is c, sequence_is c, ne_eqb _ _ c.if-y-x-3.true)
 
-pub overflow-add-result : goal.overflow-add-result
-overflow-add-result c =
+pub overflow_add-result : goal.overflow_add-result
+overflow_add-result c =
     record { fits = omega (arith, narrow_next c.args.x c.requires) }
 
 pub returns : goal.returns

@@ -121,8 +121,8 @@ returns-then-has_more c =
     join_holds (J c) (F c) (N c) (O c) c.hold-joiner-then-has_more.result (H c).priority (taken c).0 (fields c).priority_is (more_is c)
     (c.hold-joiner-then-has_more.ensures ∙ held_on (J c) (J c).length (J c).last-1 (has c) (F c) (N c) (H c).length _ _ (adds c) c.if-next-eq0.false)
 
-pub overflow-add-t48 : goal.overflow-add-t48
-overflow-add-t48 c =
+pub overflow_add-answer : goal.overflow_add-answer
+overflow_add-answer c =
     record { fits = omega (arith, total c, (taken c).0.short) }
 
 pub returns-else-has_more : goal.returns-else-has_more

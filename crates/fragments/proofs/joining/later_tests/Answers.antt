@@ -98,8 +98,8 @@ returns-then-not-goes_on c j has =
     let s = start c in
     decide s j has false true _ (within c) (strays j (F s) s.args.number false _ (on-is c j has ∙ not-true _ c.if-not-goes_on.true) refl) refl
 
-pub overflow-add-total : goal.overflow-add-total
-overflow-add-total c =
+pub overflow_add-total : goal.overflow_add-total
+overflow_add-total c =
     record { fits = omega (arith, inside least_body most_size (B c) (within c), c.held_before.ensures.1, c.requires.0.0) }
 
 pub returns-then-total-gt-MOST_MESSAGE : goal.returns-then-total-gt-MOST_MESSAGE

@@ -61,8 +61,8 @@ own_is c = sym c.equal.ensures
 own : (c : goal.Else-not-equal) → let s = c in same (address2 (F s)) s.args.s.address-1 ≡ true
 own c = own_is c ∙ not-false _ c.if-not-equal.false
 
-pub overflow-sub-unfit : goal.overflow-sub-unfit
-overflow-sub-unfit c = omega (arith, (fields c).length_is, (head c).whole)
+pub overflow_sub-frame : goal.overflow_sub-frame
+overflow_sub-frame c = omega (arith, (fields c).length_is, (head c).whole)
 
 pub returns-then-unfit : goal.returns-then-unfit
 returns-then-unfit c =
@@ -74,8 +74,8 @@ returns-then-room-sealed_length c =
     let h = head c in
     rw (c.requires.0, h.short, h.kind, h.mark, h.cut, fits c, room_is c true (lt-ltb _ _ c.if-room-sealed_length.true))
 
-pub slice-bounds-equal-end : goal.slice-bounds-equal-end
-slice-bounds-equal-end c = omega (arith, (head c).long)
+pub slice_bounds-equal-end : goal.slice_bounds-equal-end
+slice_bounds-equal-end c = omega (arith, (head c).long)
 
 pub returns-then-not-equal : goal.returns-then-not-equal
 returns-then-not-equal c =

@@ -28,8 +28,8 @@ fragment_head-head-requires c =
     let m = c.more_after.ensures in
     (omega (arith, p.header), omega (arith, p.header), p.inside, rw m (bit-most (ltb c.args.end (length c.args.frame.now))), p.numbered)
 
-pub slice-bounds-seal-parts-end : goal.slice-bounds-seal-parts-end
-slice-bounds-seal-parts-end c = omega (arith, c.requires.header, header_range c.args.frame.now)
+pub slice_bounds-seal_parts-end : goal.slice_bounds-seal_parts-end
+slice_bounds-seal_parts-end c = omega (arith, c.requires.header, header_range c.args.frame.now)
 
 pub returns : goal.returns
 unfolding fragment_with

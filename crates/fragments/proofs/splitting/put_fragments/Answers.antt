@@ -30,14 +30,14 @@ kept c =
 -- what the turn writes has room
 fits : (c : goal.After-end_of-end)
     → let l = c.loop-at in let a = c.args in
-    l.written + (a.h + (c.end_of_lem.result - l.at) + added) ≤ length a.out-1.now
+    l.written + (a.h + (c.end_of-end.result - l.at) + added) ≤ length a.out-1.now
 fits c =
     let l = c.loop-at in
     let s = c in
     let a = s.args in
     let p = s.requires in
     written_fits a.s a.size a.frame.now a.h a.out-1.now p.0 p.1 p.2 l.out-1 l.sender l.i l.at l.written l.invariant
-    c.loop-at-test.true c.end_of_lem.result c.end_of_lem.ensures
+    c.loop-at-test.true c.end_of-end.result c.end_of-end.ensures
 
 starts : (c : goal.After-end_of-end) → c.loop-at.written ≤ length c.loop-at.out-1
 starts c = omega (arith, fits c, kept c)
@@ -53,17 +53,17 @@ put_fragment-next-requires c =
     let a = c.args in
     let p = c.requires in
     puts a.s a.size a.frame.now a.h a.out-1.now p.0 p.1 p.2 l.out-1 l.sender l.i l.at l.written l.invariant
-    c.loop-at-test.true c.end_of_lem.result c.end_of_lem.ensures
+    c.loop-at-test.true c.end_of-end.result c.end_of-end.ensures
 
-pub overflow-sub-written : goal.overflow-sub-written
-overflow-sub-written c = omega (arith, c.end_of_lem.ensures, c.loop-at-test.true)
+pub overflow_sub-written : goal.overflow_sub-written
+overflow_sub-written c = omega (arith, c.end_of-end.ensures, c.loop-at-test.true)
 
-pub overflow-add-at : goal.overflow-add-at
-overflow-add-at c =
+pub overflow_add-at : goal.overflow_add-at
+overflow_add-at c =
     record { fits = omega (arith, short c, c.loop-at-test.true, c.requires.1.fit.most_size_lem) }
 
-pub overflow-add-i : goal.overflow-add-i
-overflow-add-i c =
+pub overflow_add-i : goal.overflow_add-i
+overflow_add-i c =
     let l = c.loop-at in
     let a = c.args in
     record { fits = omega (arith, l.invariant.reached, fragments_count a.size a.frame.now, pieces_count a.size a.frame.now) }
@@ -78,7 +78,7 @@ loop-at-preserved c =
     let p = c.requires in
     let put = c.put_fragment-next in
     goes_on a.s a.size a.frame.now a.h a.out-1.now p.0 p.1 p.2 l.out-1 l.sender l.i l.at l.written l.invariant
-    c.loop-at-test.true c.end_of_lem.result c.end_of_lem.ensures _ _ put.ensures.0 put.ensures.1
+    c.loop-at-test.true c.end_of-end.result c.end_of-end.ensures _ _ put.ensures.0 put.ensures.1
 
 pub returns : goal.returns
 returns c =

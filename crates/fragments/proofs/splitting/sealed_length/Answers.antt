@@ -16,11 +16,11 @@ beside c =
     let a = s.args in
     rw c.count.ensures (most_added a.size a.frame.now a.h s.requires)
 
-pub overflow-mul-result : goal.overflow-mul-result
-overflow-mul-result c = let b = beside c in record { fits = omega arith }
+pub overflow_mul-result : goal.overflow_mul-result
+overflow_mul-result c = let b = beside c in record { fits = omega arith }
 
-pub overflow-add-result-2 : goal.overflow-add-result-2
-overflow-add-result-2 c =
+pub overflow_add-result-2 : goal.overflow_add-result-2
+overflow_add-result-2 c =
     let a = c.args in
     let b = beside c in
     record { fits = omega (arith, message_is a.size a.frame.now a.h c.requires, c.requires.fit.most) }

@@ -43,8 +43,8 @@ put_fragments-next-requires c =
     let q = splittable c in
     ((fields c).length_is, q.0, q.1)
 
-pub overflow-add-t15 : goal.overflow-add-t15
-overflow-add-t15 c = record { fits = omega (arith, (splittable c).0.unspent) }
+pub overflow_add-result : goal.overflow_add-result
+overflow_add-result c = record { fits = omega (arith, (splittable c).0.unspent) }
 
 pub sealed_length-requires : goal.sealed_length-requires
 sealed_length-requires c =

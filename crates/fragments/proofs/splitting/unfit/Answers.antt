@@ -32,8 +32,8 @@ unfolding unfit
 returns-then-outside-2 c =
     rw (even c, size_fits c, sym c.outside-2.ensures ∙ c.if-outside-2.true)
 
-pub overflow-mul-result : goal.overflow-mul-result
-overflow-mul-result c = record { fits = omega (arith, inside least_size most_size c.args.size (size_fits c)) }
+pub overflow_mul-result : goal.overflow_mul-result
+overflow_mul-result c = record { fits = omega (arith, inside least_size most_size c.args.size (size_fits c)) }
 
 pub returns : goal.returns
 unfolding unfit

@@ -10,8 +10,8 @@ used : (c : goal.After-triple_of) → c.args.a.used ≡ true
 used c = not-false c.args.a.used c.if-not-a.false
 
 -- the triple, as it is compared
-triple-is : (c : goal.After-is_for) → let s = c in is_for (triple_of s.args.a) s.args.b ≡ c.is_for_lem.result
-triple-is c = ap (λ x. is_for x c.args.b) (sym c.triple_of.ensures) ∙ sym c.is_for_lem.ensures
+triple-is : (c : goal.After-is_for) → let s = c in is_for (triple_of s.args.a) s.args.b ≡ c.is_for.result
+triple-is c = ap (λ x. is_for x c.args.b) (sym c.triple_of.ensures) ∙ sym c.is_for.ensures
 
 pub returns-then-not-a : goal.returns-then-not-a
 unfolding clash
@@ -24,4 +24,4 @@ returns-then-is_for c = rw (used c, triple-is c ∙ c.if-is_for.true)
 pub returns : goal.returns
 unfolding clash
 returns c =
-    rw (used c, triple-is c ∙ c.if-is_for.false) c.has_key_lem.ensures
+    rw (used c, triple-is c ∙ c.if-is_for.false) c.has_key.ensures

@@ -14,11 +14,11 @@ loop-i-init c = (search rules, simp length-map at c.well-formed.0.1.1.0.1.0.1, s
 
 pub returns-then-has_key : goal.returns-then-has_key
 returns-then-has_key c =
-    sym (c.loop-i.invariant.2 ∙ here (has_key c.args.key) _ _ c.loop-i.i (search rules) (sym c.has_key_lem.ensures ∙ c.if-has_key.true))
+    sym (c.loop-i.invariant.2 ∙ here (has_key c.args.key) _ _ c.loop-i.i (search rules) (sym c.has_key.ensures ∙ c.if-has_key.true))
 
 pub loop-i-preserved : goal.loop-i-preserved
 loop-i-preserved c =
-    (search rules, c.loop-i.invariant.1, c.loop-i.invariant.2 ∙ further (has_key c.args.key) _ _ c.loop-i.i (search rules) (sym c.has_key_lem.ensures ∙ c.if-has_key.false))
+    (search rules, c.loop-i.invariant.1, c.loop-i.invariant.2 ∙ further (has_key c.args.key) _ _ c.loop-i.i (search rules) (sym c.has_key.ensures ∙ c.if-has_key.false))
 
 pub returns : goal.returns
 returns c =

@@ -15,11 +15,11 @@ loop-i-init c = (search rules, simp length-map at c.well-formed.0.1.1.0.1.0.1, s
 pub returns-then-is_for : goal.returns-then-is_for
 unfolding place_of
 returns-then-is_for c =
-    sym (c.loop-i.invariant.2 ∙ here (is_for c.args.x) _ _ c.loop-i.i (search rules) (sym c.is_for_lem.ensures ∙ c.if-is_for.true))
+    sym (c.loop-i.invariant.2 ∙ here (is_for c.args.x) _ _ c.loop-i.i (search rules) (sym c.is_for.ensures ∙ c.if-is_for.true))
 
 pub loop-i-preserved : goal.loop-i-preserved
 loop-i-preserved c =
-    (search rules, c.loop-i.invariant.1, c.loop-i.invariant.2 ∙ further (is_for c.args.x) _ _ c.loop-i.i (search rules) (sym c.is_for_lem.ensures ∙ c.if-is_for.false))
+    (search rules, c.loop-i.invariant.1, c.loop-i.invariant.2 ∙ further (is_for c.args.x) _ _ c.loop-i.i (search rules) (sym c.is_for.ensures ∙ c.if-is_for.false))
 
 pub returns : goal.returns
 unfolding place_of

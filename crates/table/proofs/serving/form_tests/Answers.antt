@@ -33,8 +33,8 @@ body_is c =
 pub returns-then-not-sound_table : goal.returns-then-not-sound_table
 returns-then-not-sound_table c = rw (sym c.sound_table.ensures ∙ not-true c.sound_table.result c.if-not-sound_table.true)
 
-pub overflow-sub-outside : goal.overflow-sub-outside
-overflow-sub-outside c =
+pub overflow_sub-frame : goal.overflow_sub-frame
+overflow_sub-frame c =
     omega (arith, (fields_of (F c) _ (head c).is).length_is, (head c).whole)
 
 pub returns-then-outside : goal.returns-then-outside

@@ -77,8 +77,8 @@ address_at-own-requires c = omega (arith, sizes c)
 pub address_at-peer-requires : goal.address_at-peer-requires
 address_at-peer-requires c = omega (arith, sizes c)
 
-pub overflow-add-key-id : goal.overflow-add-key-id
-overflow-add-key-id c =
+pub overflow_add-key_id : goal.overflow_add-key_id
+overflow_add-key_id c =
     record { fits = omega (arith, (fields c).length_is, header_range (F c)) }
 
 pub bounds-frame-h : goal.bounds-frame-h

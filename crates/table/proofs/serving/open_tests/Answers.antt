@@ -50,14 +50,14 @@ sizes c =
 roomy : (c : goal.Else-room-frame) → let t = c in ltb t.args.room (length (F t) - added) ≡ false
 roomy c = le-ltb _ _ c.if-room-frame.false
 
-pub overflow-sub-if1 : goal.overflow-sub-if1
-overflow-sub-if1 c = omega (arith, sizes c)
+pub overflow_sub-frame : goal.overflow_sub-frame
+overflow_sub-frame c = omega (arith, sizes c)
 
 pub returns-then-room-frame : goal.returns-then-room-frame
 returns-then-room-frame c = sym (on c ∙ rw (lt-ltb _ _ c.if-room-frame.true))
 
-pub overflow-add-if2 : goal.overflow-add-if2
-overflow-add-if2 c = record { fits = omega (arith, (fields c).length_is, header_range (F c)) }
+pub overflow_add-h : goal.overflow_add-h
+overflow_add-h c = record { fits = omega (arith, (fields c).length_is, header_range (F c)) }
 
 pub bounds-frame-h : goal.bounds-frame-h
 bounds-frame-h c = omega (arith, (fields c).length_is, sizes c)
