@@ -40,7 +40,7 @@ loop-k-preserved c =
     let p = c.loop-j.invariant in (
       omega arith,
       simp length-set l.invariant.1,
-      filled twice_of l.all-1 l.k _ (omega arith) l.invariant.2 (c.twice.ensures ∙ rw (p.2 l.k (omega arith))),
+      filled twice_of l.all l.k _ (omega arith) l.invariant.2 (c.twice.ensures ∙ rw (p.2 l.k (omega arith))),
     )
 
 pub returns : goal.returns

@@ -8,4 +8,4 @@ use Rattle.aes.proofs.rounds.load.Goals as goal
 pub returns : goal.returns
 returns c =
     columns_are c.pack.ensures c.pack-2.ensures c.pack-3.ensures c.pack-4.ensures
-    ∙ each_all c.args.t1 16 (search rules)
+    ∙ each_all c.args.block 16 (search rules)

@@ -16,7 +16,7 @@ loop-k-init c = (omega arith, refl, refl)
 pub loop-k-preserved : goal.loop-k-preserved
 loop-k-preserved c =
     let p = c.loop-k in
-    (omega arith, simp length-set p.invariant.1, copied p.w-1 c.args.t2 p.k (omega arith) (search rules) p.invariant.2)
+    (omega arith, simp length-set p.invariant.1, copied p.w c.args.key p.k (omega arith) (search rules) p.invariant.2)
 
 pub loop-n-init : goal.loop-n-init
 unfolding schedule
@@ -27,8 +27,8 @@ loop-n-preserved c =
     let l = c.loop-n in (
       omega arith,
       simp length-set l.invariant.1,
-      at_hand l.w-1 l.n _ l.invariant.1 (omega arith),
-      λ h. grown l.w-1 l.n _ l.invariant.1 (omega arith) _ l.last (l.invariant.3 h) l.invariant.2 (c.next_word-x.ensures h),
+      at_hand l.w l.n _ l.invariant.1 (omega arith),
+      λ h. grown l.w l.n _ l.invariant.1 (omega arith) _ l.last (l.invariant.3 h) l.invariant.2 (c.next_word-x.ensures h),
     )
 
 pub returns : goal.returns
@@ -36,5 +36,5 @@ unfolding key_expansion
 returns c h =
     let p = c.loop-n in
     let e : p.n ≡ 40 = omega arith in
-    sym (take_all (4 * p.n + 16) p.w-1 (omega arith)) ∙ p.invariant.3 h
-    ∙ ap₂ (schedule 4) (whole c.loop-k.w-1 c.args.t2 c.loop-k.k (omega arith) (search rules) c.loop-k.invariant.2) e
+    sym (take_all (4 * p.n + 16) p.w (omega arith)) ∙ p.invariant.3 h
+    ∙ ap₂ (schedule 4) (whole c.loop-k.w c.args.key c.loop-k.k (omega arith) (search rules) c.loop-k.invariant.2) e
