@@ -1,11 +1,11 @@
 use mathlib.Core.Path.{◌≡◌, refl, sym, ap, ap₂, ◌∙◌}
+use mathlib.Core.Bool.{Bool}
 use mathlib.Core.List.{List, ◌++◌}
 use Prim.Native.Nat.{ℕ, ◌-◌}
 use native.Mathlib.Omega.{arith}
 use lib.ListN.{length, take, drop, length-take, length-drop, length-append}
 use lib.Seq.{take_at, take_all}
 use lib.Dec.{lit≤}
-use borrow.Author.Tests.{not-true, not-false}
 use borrow.Author.Rules.{rules}
 use Rattle.octets.specs.Octets.{same}
 use Rattle.octets.proofs.Lists.{laid_all}
@@ -19,18 +19,6 @@ use Rattle.aes.proofs.Laws.{length_cipher}
 use Rattle.ccm.proofs.Splitting.{length_masked}
 use Rattle.ccm.proofs.open_last.Goals as goal
 
-abbrev E : goal.After-pass-last → List ℕ → List ℕ
-E c = cipher 10 c.args.w.now
-
-abbrev t : goal.After-pass-last → List ℕ
-t c = c.args.text.now
-
-abbrev m : goal.After-pass-last → List ℕ
-m c = message_from (E c) c.args.nonce c.args.i (t c)
-
-abbrev front : goal.After-pass-last → List ℕ
-front c = c.pass-last.new.out
-
 pub pass-last-requires : goal.pass-last-requires
 pass-last-requires c =
     let a = c.args in
@@ -43,45 +31,48 @@ pass-last-requires c =
       c.requires.2,
     )
 
--- the message, as the slice [0..n] has it
-whole : (c : goal.After-pass-last) → take (length (t c) - code_octets - 0) (t c) ≡ take (length (t c) - code_octets) (t c)
-whole c =
-    let e : length (t c) - code_octets - 0 ≡ length (t c) - code_octets = omega arith in
-    ap (λ (k : ℕ). take k (t c)) e
+module _ (w N : List ℕ) (i : ℕ) (t : List ℕ) where
+  abbrev E : List ℕ → List ℕ
+  E = cipher 10 w
 
-masked-is : (c : goal.After-pass-last) → front c ≡ m c
-masked-is c = c.pass-last.ensures.out_after ∙ ap (masked (E c) c.args.nonce c.args.i) (whole c)
+  abbrev n : ℕ
+  n = length t - code_octets
 
-length_front : (c : goal.After-pass-last) → length (front c) ≡ length (t c) - code_octets
-length_front c =
-    ap length (masked-is c)
-    ∙ length_masked (E c) (length_cipher 10 c.args.w.now) c.args.nonce c.args.i (take (length (t c) - code_octets) (t c))
-    ∙ omega (arith, length-take (length (t c) - code_octets) (t c))
+  -- the message, as the slice [0..n] has it
+  whole : take (n - 0) t ≡ take n t
+  whole = let e : n - 0 ≡ n = omega arith in ap (λ (k : ℕ). take k t) e
 
-front_is : (c : goal.After-pass-last) (rest : List ℕ) → take (length (t c) - code_octets - 0) (front c ++ rest) ≡ m c
-front_is c rest = take_at (front c) rest (length (t c) - code_octets - 0) (omega (arith, length_front c)) ∙ masked-is c
+  module _ (front : List ℕ) (written : front ≡ masked E N i (take (n - 0) t)) where
+    masked_is : front ≡ message_from E N i t
+    masked_is = written ∙ ap (masked E N i) whole
 
-right_is : (c : goal.After-verified) → let d = c in c.verified.result ≡ right_from (E d) d.args.nonce d.args.i (bytes_of d.args.from.second) (t d)
-right_is c =
-    let d = c in
-    let a = d.args in
-    let code = take (length (t d) - (length (t d) - code_octets)) (drop (length (t d) - code_octets) (t d)) in
-    c.verified.ensures
-    ∙ ap (λ (k : List ℕ). same (xors (take code_octets (bytes_of d.pass-last.result.second)) k) code) d.pass-last.ensures.first_value
-    ∙ ap₂ (λ (z l : List ℕ). same (xors (take code_octets z) (S (E d) a.nonce 0)) l)
-    (d.pass-last.ensures.second_value ∙ ap (λ (s : List ℕ). chain (E d) (bytes_of a.from.second) (blocks (masked (E d) a.nonce a.i s))) (whole d))
-    (take_all (length (t d) - (length (t d) - code_octets)) (drop (length (t d) - code_octets) (t d)) (omega (arith, length-drop (length (t d) - code_octets) (t d))))
+    length_front : length front ≡ n
+    length_front = ap length masked_is ∙ length_masked E (length_cipher 10 w) N i (take n t) ∙ omega (arith, length-take n t)
+
+    front_is : (rest : List ℕ) → take (n - 0) (front ++ rest) ≡ message_from E N i t
+    front_is rest = take_at front rest (n - 0) (omega (arith, length_front)) ∙ masked_is
+
+  right_is : (x first second : List ℕ) (right : Bool) → first ≡ S E N 0
+      → second ≡ chain E x (blocks (masked E N i (take (n - 0) t)))
+      → right ≡ same (xors (take code_octets second) first) (take (length t - n) (drop n t))
+      → right ≡ right_from E N i x t
+  right_is x first second right f s e =
+      e
+      ∙ ap (λ (k : List ℕ). same (xors (take code_octets second) k) (take (length t - n) (drop n t))) f
+      ∙ ap₂ (λ (z l : List ℕ). same (xors (take code_octets z) (S E N 0)) l)
+      (s ∙ ap (λ (m : List ℕ). chain E x (blocks (masked E N i m))) whole)
+      (take_all (length t - n) (drop n t) (omega (arith, length-drop n t)))
 
 pub returns-then-not-verified : goal.returns-then-not-verified
-returns-then-not-verified c = record { value = sym (sym (right_is c) ∙ not-true _ c.if-not-verified.true); out_after = refl }
+returns-then-not-verified c = record { value = sym (sym (right_is c.args.w.now c.args.nonce c.args.i c.args.text.now (bytes_of c.args.from.second) _ _ c.verified.result c.pass-last.ensures.first_value c.pass-last.ensures.second_value c.verified.ensures) ∙ c.if-not-verified.true); out_after = refl }
 
 pub slice_bounds-copy-end : goal.slice_bounds-copy-end
-slice_bounds-copy-end c = simp length-append (omega (arith, length_front c))
+slice_bounds-copy-end c = simp length-append (omega (arith, length_front c.args.w.now c.args.nonce c.args.i c.args.text.now _ c.pass-last.ensures.out_after))
 
 pub returns : goal.returns
 returns c =
-    let n = length (t c) - code_octets in
-    let out = c.args.out-1.now in
+    let n = length c.args.text.now - code_octets in
+    let out = c.args.out.now in
     let e : n - 0 ≡ n = omega arith in
-    let ys = c.copy.ensures.copied ∙ laid_all _ _ (simp (length-take, length-append) (omega (arith, length_front c))) ∙ front_is c _ in
- record { value = sym (sym (right_is c) ∙ not-false _ c.if-not-verified.false); out_after = ap₂ (λ (l : List ℕ) (k : ℕ). l ++ drop k out) ys e }
+    let ys = c.copy.ensures.copied ∙ laid_all _ _ (simp (length-take, length-append) (omega (arith, length_front c.args.w.now c.args.nonce c.args.i c.args.text.now _ c.pass-last.ensures.out_after))) ∙ front_is c.args.w.now c.args.nonce c.args.i c.args.text.now _ c.pass-last.ensures.out_after _ in
+    record { value = sym (sym (right_is c.args.w.now c.args.nonce c.args.i c.args.text.now (bytes_of c.args.from.second) _ _ c.verified.result c.pass-last.ensures.first_value c.pass-last.ensures.second_value c.verified.ensures) ∙ c.if-not-verified.false); out_after = ap₂ (λ (l : List ℕ) (k : ℕ). l ++ drop k out) ys e }

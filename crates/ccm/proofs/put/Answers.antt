@@ -20,7 +20,7 @@ pub returns : goal.returns
 returns c =
     let a = c.args in
     let E = cipher 10 a.w.now in
-    let out = a.out-1.now in
+    let out = a.out.now in
     let m = a.body.now in
     let n = length m in
     let ys = c.pass-last.new.out in

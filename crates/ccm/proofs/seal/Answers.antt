@@ -3,7 +3,6 @@ use mathlib.Core.List.{List, ◌++◌}
 use Prim.Native.Nat.{ℕ, ◌+◌}
 use lib.ListN.{length, drop}
 use lib.Dec.{lit≤}
-use borrow.Author.Tests.{not-true, not-false}
 use borrow.Author.Rules.{rules}
 use Rattle.aes.specs.Cipher.{cipher}
 use Rattle.aes.specs.KeyExpansion.{aes128}
@@ -18,17 +17,19 @@ use Rattle.ccm.proofs.seal.Goals as goal
 pub returns-then-not-in_limits : goal.returns-then-not-in_limits
 returns-then-not-in_limits c =
     let a = c.args in
-    seal_limits (aes128 a.key) (length_aes128 a.key) code_octets (lit≤ tt) a.nonce a.aad.now a.out-1.now a.body.now
-    (sym c.in_limits.ensures ∙ not-true _ c.if-not-in_limits.true)
+    let w = seal_limits (aes128 a.key) (length_aes128 a.key) code_octets (lit≤ tt) a.nonce a.aad.now a.out.now a.body.now
+    (sym c.in_limits.ensures ∙ c.if-not-in_limits.true) in
+    record { value = w.0; out_after = w.1 }
 
 pub returns-then-out-n : goal.returns-then-out-n
 returns-then-out-n c =
     let a = c.args in
-    seal_small (aes128 a.key) (length_aes128 a.key) code_octets (lit≤ tt) a.nonce a.aad.now a.out-1.now a.body.now c.if-out-n.true
+    let w = seal_small (aes128 a.key) (length_aes128 a.key) code_octets (lit≤ tt) a.nonce a.aad.now a.out.now a.body.now c.if-out-n.true in
+    record { value = w.0; out_after = w.1 }
 
 pub put-requires : goal.put-requires
 put-requires c =
-    let h = in_limits_lem _ _ (sym c.in_limits.ensures ∙ not-false _ c.if-not-in_limits.false) in
+    let h = in_limits_lem _ _ (sym c.in_limits.ensures ∙ c.if-not-in_limits.false) in
     (h.1, h.2, c.if-out-n.false, c.fill_products.ensures)
 
 pub returns : goal.returns
@@ -37,8 +38,9 @@ returns c =
     let N = a.nonce in
     let A = a.aad.now in
     let m = a.body.now in
-    let out = a.out-1.now in
+    let out = a.out.now in
     let cipher-is = ap (cipher 10) (c.expand-w.ensures c.fill_products.ensures) ∙ sym (aes128_is a.key) in
-    seal_done (aes128 a.key) (length_aes128 a.key) code_octets (lit≤ tt) N A out m
-    (sym c.in_limits.ensures ∙ not-false _ c.if-not-in_limits.false) c.if-out-n.false _
-    (c.put.ensures ∙ ap (λ (F : List ℕ → List ℕ). (masked F N 1 m ++ U F code_octets N A m) ++ drop (length m + code_octets) out) cipher-is)
+    let w = seal_done (aes128 a.key) (length_aes128 a.key) code_octets (lit≤ tt) N A out m
+    (sym c.in_limits.ensures ∙ c.if-not-in_limits.false) c.if-out-n.false _
+    (c.put.ensures ∙ ap (λ (F : List ℕ → List ℕ). (masked F N 1 m ++ U F code_octets N A m) ++ drop (length m + code_octets) out) cipher-is) in
+    record { value = w.0; out_after = w.1 }

@@ -12,4 +12,4 @@ pub returns : goal.returns
 unfolding formatted two_octets
 returns c =
     let a = c.args in
-    c.load.ensures ∙ ap (λ (l : List ℕ). a.flags ∷ (l ++ two_octets a.n)) (each_all a.t2 13 (search rules))
+    c.load.ensures ∙ ap (λ (l : List ℕ). a.flags ∷ (l ++ two_octets a.n)) (each_all a.nonce 13 (search rules))

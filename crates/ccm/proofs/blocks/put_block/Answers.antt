@@ -12,7 +12,7 @@ use Rattle.ccm.proofs.blocks.put_block.Goals as goal
 -- The room that the block is copied into ends with out or with the block.
 pub returns-then-n-lt16 : goal.returns-then-n-lt16
 returns-then-n-lt16 c =
-    let out = c.args.out-1.now in
+    let out = c.args.out.now in
     let at = c.args.at in
     let e : length out - at - 0 ≡ length out - at = omega arith in
     let ys = c.copy.ensures.copied ∙ laid_all _ _ (simp (length-take, length-drop) (omega arith)) ∙ ap₂ take e c.store-block.ensures in
@@ -21,7 +21,7 @@ returns-then-n-lt16 c =
 
 pub returns : goal.returns
 returns c =
-    let out = c.args.out-1.now in
+    let out = c.args.out.now in
     let at = c.args.at in
     let ys = c.copy-2.ensures.copied ∙ laid_all _ _ (simp (length-take, length-drop) (omega arith)) ∙ c.store-block.ensures in
     ap (λ (l : List ℕ). take at out ++ (l ++ drop (at + 16 - at) (drop at out))) ys

@@ -58,7 +58,7 @@ loop-at-preserved c =
     let E = cipher 10 a.w.now in
     let hE = length_cipher 10 a.w.now in
     let at = l.at in
-    let out = l.out-1 in
+    let out = l.out in
     let lo = l.invariant.1 in
     let h : at < length s = omega (arith, c.loop-at-test.true) in
     let key = l.invariant.3 ∙ ap (S E N) (counter_within (length s) at (at / 16 + a.i) a.after h) in
@@ -88,4 +88,4 @@ returns c =
     let a = c.args in
     let s = a.s.now in
     let E = cipher 10 a.w.now in
-    let hE = length_cipher 10 a.w.now in record { first_value = l.invariant.3 ∙ ap (S E a.nonce) (counter_behind (length s) l.at (l.at / 16 + a.i) a.after c.loop-at-test.false); second_value = fed E s l.at hE a.nonce a.i a.opening (bytes_of l.two.second) _ c.loop-at-test.false l.invariant.5; out_after = masks_end E s l.at hE a.nonce a.i l.out-1 _ l.invariant.1 c.loop-at-test.false l.invariant.4 }
+    let hE = length_cipher 10 a.w.now in record { first_value = l.invariant.3 ∙ ap (S E a.nonce) (counter_behind (length s) l.at (l.at / 16 + a.i) a.after c.loop-at-test.false); second_value = fed E s l.at hE a.nonce a.i a.opening (bytes_of l.two.second) _ c.loop-at-test.false l.invariant.5; out_after = masks_end E s l.at hE a.nonce a.i l.out _ l.invariant.1 c.loop-at-test.false l.invariant.4 }
