@@ -1,5 +1,5 @@
 -- A step of a search.
-use Rattle.std.proofs.Common.{◌≡◌, ℕ, suc, ◌+◌, ◌<◌, ◌≤◌, Bool, true, false, eqb, List, ◌∷◌, length, take, drop, get_or, refl, ap, ◌∙◌, arith, length-take-le, drop-cons, eq-eqb}
+use Rattle.std.proofs.Common.{◌≡◌, ℕ, suc, ◌<◌, ◌≤◌, List, ◌∷◌, length, take, drop, get_or, refl, ap, ◌∙◌, arith, length-take-le, drop-cons, eq-eqb}
 use borrow.Author.Tests.{ne_eqb}
 use Rattle.std.proofs.lemmas.List.{get_or-take, drop_all}
 use Rattle.octets.specs.Search.{slice, index_after, index_of}

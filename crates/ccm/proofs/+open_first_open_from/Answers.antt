@@ -1,5 +1,5 @@
 -- The first part and what is opened after it make the whole.
-use Rattle.std.proofs.Common.{◌≡◌, ℕ, ◌+◌, ◌-◌, ◌*◌, ◌<◌, ◌≤◌, List, length, take, drop, sym, ap, subst, ◌∙◌, arith, length-drop, rules}
+use Rattle.std.proofs.Common.{◌≡◌, ℕ, ◌+◌, ◌-◌, ◌*◌, ◌<◌, ◌≤◌, List, length, take, drop, sym, ap, subst, ◌∙◌, arith, length-drop}
 use Rattle.std.proofs.Math.ListN.{length-take}
 use Rattle.octets.proofs.Lists.{laid_all}
 use Rattle.aes.specs.Cipher.{cipher}
@@ -8,9 +8,8 @@ use Rattle.aes.proofs.Laws.{length_cipher}
 use Rattle.ccm.specs.Limits.{code_octets, held, held_blocks}
 use Rattle.ccm.specs.Ccm.{S}
 use Rattle.ccm.specs.Room.{message_from}
-use Rattle.ccm.proofs.Splitting.{length_masked}
 use Rattle.ccm.proofs.Turns.{counter_within}
-use Rattle.ccm.proofs.Parts.{joined, right_parts, kept_out, put_out, length_out, openable_after}
+use Rattle.ccm.proofs.Parts.{joined, right_parts, kept_out, put_out, openable_after}
 use Rattle.ccm.proofs.+open_first_open_from.Goals as goal
 
 -- the text after its first part is shorter
@@ -29,8 +28,7 @@ open_first-pass-next-requires t c =
 pub open_first-open_from-requires : goal.open_first-open_from-requires
 open_first-open_from-requires t c =
     let a = c.args in
-    let long = c.requires.1 in
-    (
+    let long = c.requires.1 in (
       subst (λ (j : ℕ). 2 * length (take (length a.text.now - held) (drop held a.text.now)) + 1 < j) c.decreases (shorter a.text.now long),
       (openable_after (cipher 10 a.w.now) a.nonce a.i (bytes_of a.from.first) _ a.text.now a.out.now long c.pass-next.ensures.first_value c.requires.0, c.requires.2),
     )
@@ -59,5 +57,5 @@ open_first-returns t c =
     record {
       value = sym found ∙ right_parts E hE a.nonce a.i a.text.now long (bytes_of a.from.second) _ _ c.pass-next.ensures.second_value c.open_from.ensures.value;
       out_after = put_out a.out.now fits _ _ _ (message_from E a.nonce (a.i + held_blocks) after) (length after - code_octets) part (c.open_from.ensures.out_after ∙ rw found)
-        ∙ joined E hE a.nonce a.i a.text.now long a.out.now;
+          ∙ joined E hE a.nonce a.i a.text.now long a.out.now;
     }

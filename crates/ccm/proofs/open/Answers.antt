@@ -1,16 +1,15 @@
 use mathlib.Core.Path.{◌≡◌, refl, sym, ap, ◌∙◌}
-use mathlib.Core.Bool.{Bool, true}
+use mathlib.Core.Bool.{Bool}
 use mathlib.Core.List.{List}
 use Prim.Native.Nat.{ℕ, ◌-◌}
 use native.Mathlib.Omega.{arith}
 use lib.ListN.{length, take, drop, length-take}
 use lib.Dec.{lit≤}
-use borrow.Author.Rules.{rules}
 use Rattle.aes.specs.Cipher.{cipher}
 use Rattle.aes.specs.KeyExpansion.{aes128, key_expansion}
 use Rattle.ccm.specs.Limits.{code_octets}
 use Rattle.octets.specs.Octets.{same}
-use Rattle.ccm.specs.Ccm.{masked, U, in_limits, chain, B₀, coded}
+use Rattle.ccm.specs.Ccm.{masked, U, chain, B₀, coded}
 use Rattle.ccm.specs.Blocks.{blocks}
 use Rattle.ccm.specs.Room.{right_from}
 use Rattle.aes.proofs.Laws.{aes128_is, length_aes128, length_cipher}

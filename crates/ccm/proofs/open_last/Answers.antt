@@ -6,7 +6,6 @@ use native.Mathlib.Omega.{arith}
 use lib.ListN.{length, take, drop, length-take, length-drop, length-append}
 use lib.Seq.{take_at, take_all}
 use lib.Dec.{lit≤}
-use borrow.Author.Rules.{rules}
 use Rattle.octets.specs.Octets.{same}
 use Rattle.octets.proofs.Lists.{laid_all}
 use Rattle.aes.specs.Cipher.{cipher}

@@ -3,7 +3,6 @@ use mathlib.Core.List.{List, ◌++◌}
 use Prim.Native.Nat.{ℕ, ◌-◌, ◌+◌}
 use native.Mathlib.Omega.{arith}
 use lib.ListN.{length, take, drop, length-take}
-use borrow.Author.Rules.{rules}
 use Rattle.octets.proofs.Lists.{laid_all}
 use Rattle.aes.specs.Cipher.{cipher}
 use Rattle.aes.specs.Word.{bytes_of}

@@ -3,7 +3,6 @@ use mathlib.Core.List.{List, ◌++◌}
 use Prim.Native.Nat.{ℕ, ◌+◌}
 use lib.ListN.{length, drop}
 use lib.Dec.{lit≤}
-use borrow.Author.Rules.{rules}
 use Rattle.aes.specs.Cipher.{cipher}
 use Rattle.aes.specs.KeyExpansion.{aes128}
 use Rattle.ccm.specs.Limits.{code_octets}

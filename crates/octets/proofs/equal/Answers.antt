@@ -1,9 +1,6 @@
-use mathlib.Core.Path.{◌≡◌, refl, sym, ap₂, ◌∙◌}
-use Prim.Native.Nat.{◌≤◌, ◌-◌}
+use mathlib.Core.Path.{refl, sym, ap₂, ◌∙◌}
 use native.Mathlib.Omega.{arith}
-use lib.ListN.{length, take}
 use lib.Seq.{take_all}
-use lib.Dec.{eqb}
 use borrow.Author.Rules.{rules}
 use Rattle.octets.specs.Octets.{same}
 use Rattle.octets.proofs.Same.{sizes_differ, equal_turn}

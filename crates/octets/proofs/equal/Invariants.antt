@@ -1,12 +1,8 @@
-use mathlib.Core.Path.{◌≡◌, refl, sym, ap₂, ◌∙◌}
+use mathlib.Core.Path.{◌≡◌}
 use Prim.Native.Nat.{◌≤◌, ◌-◌}
-use native.Mathlib.Omega.{arith}
 use lib.ListN.{length, take}
-use lib.Seq.{take_all}
 use lib.Dec.{eqb}
-use borrow.Author.Rules.{rules}
 use Rattle.octets.specs.Octets.{same}
-use Rattle.octets.proofs.Same.{sizes_differ, equal_turn}
 use Rattle.octets.proofs.equal.Given as goal
 
 -- After i turns no bit differs exactly where the first i octets are the same.

@@ -1,5 +1,4 @@
-use Rattle.std.proofs.Common.{◌≡◌, ◌+◌, suc, sym, ap, add-one, arith}
-use Rattle.octets.specs.Search.{slice, index_of}
+use Rattle.std.proofs.Common.{◌≡◌, add-one, arith}
 use Rattle.octets.proofs.Search.{found_here, found_later, found_nowhere}
 use Rattle.octets.proofs.find.Goals as goal
 

@@ -1,6 +1,5 @@
 use mathlib.Core.Path.{◌∙◌}
 use mathlib.Core.List.{[], ◌∷◌}
-use borrow.Author.Rules.{rules}
 use Rattle.aes.specs.KeyExpansion.{sub_word}
 use Rattle.aes.proofs.column.sub_word.Goals as goal
 

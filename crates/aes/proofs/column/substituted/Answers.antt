@@ -1,4 +1,3 @@
-use borrow.Author.Rules.{rules}
 use Rattle.aes.proofs.Entries.{second}
 use Rattle.aes.proofs.Laws.{octet_sbox}
 use Rattle.aes.proofs.column.substituted.Goals as goal

@@ -1,4 +1,3 @@
-use borrow.Author.Rules.{rules}
 use Rattle.aes.specs.Field.{◌⊕◌, xtime}
 use Rattle.aes.proofs.Doubling.{doubling}
 use Rattle.aes.proofs.products.doubled.Goals as goal

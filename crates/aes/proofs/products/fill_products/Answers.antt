@@ -1,10 +1,9 @@
-use mathlib.Core.Path.{◌≡◌, refl, ◌∙◌}
-use Prim.Native.Nat.{◌≤◌, ◌-◌}
+use mathlib.Core.Path.{refl, ◌∙◌}
 use native.Mathlib.Nat.{not-suc-le-zero}
 use native.Mathlib.Omega.{arith}
-use lib.ListN.{length, length-set}
+use lib.ListN.{length-set}
 use borrow.Author.Rules.{rules}
-use Rattle.aes.proofs.Entries.{Filled, filled, half_of, word_of, twice_of, half_is, word_is}
+use Rattle.aes.proofs.Entries.{filled, half_of, word_of, twice_of, half_is, word_is}
 use Rattle.aes.proofs.products.fill_products.Goals as goal
 
 pub loop-i-init : goal.loop-i-init

@@ -1,10 +1,7 @@
-use mathlib.Core.Path.{◌≡◌, refl, ◌∙◌}
+use mathlib.Core.Path.{◌≡◌}
 use Prim.Native.Nat.{◌≤◌, ◌-◌}
-use native.Mathlib.Nat.{not-suc-le-zero}
-use native.Mathlib.Omega.{arith}
-use lib.ListN.{length, length-set}
-use borrow.Author.Rules.{rules}
-use Rattle.aes.proofs.Entries.{Filled, filled, half_of, word_of, twice_of, half_is, word_is}
+use lib.ListN.{length}
+use Rattle.aes.proofs.Entries.{Filled, half_of, word_of, twice_of}
 use Rattle.aes.proofs.products.fill_products.Given as goal
 
 -- Each loop fills one table from the one before it: halves of words, words, and each word twice.

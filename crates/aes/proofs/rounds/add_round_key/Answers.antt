@@ -1,5 +1,4 @@
 use mathlib.Core.Path.{refl}
-use borrow.Author.Rules.{rules}
 use Rattle.aes.specs.Cipher.{add_round_key}
 use Rattle.aes.specs.KeyExpansion.{xor_word}
 use Rattle.aes.proofs.Bytes.{added}

@@ -1,11 +1,8 @@
 use mathlib.Core.Path.{◌≡◌}
 use mathlib.Core.List.{List}
 use Prim.Native.Nat.{ℕ, ◌≤◌, ◌-◌}
-use native.Mathlib.Omega.{arith}
-use borrow.Author.Rules.{rules}
 use Rattle.aes.specs.Cipher.{rounds}
 use Rattle.aes.specs.Word.{bytes_of, Products}
-use Rattle.aes.proofs.States.{begun, again, ended}
 use Rattle.aes.proofs.rounds.encrypt_two.Given as goal
 
 -- What `encrypt` keeps, for each of the two.

@@ -1,4 +1,3 @@
-use borrow.Author.Rules.{rules}
 use Rattle.aes.proofs.States.{last_is}
 use Rattle.aes.proofs.rounds.last_round.Goals as goal
 

@@ -1,4 +1,3 @@
-use borrow.Author.Rules.{rules}
 use Rattle.aes.specs.Cipher.{sub_bytes, mix_columns}
 use Rattle.aes.specs.KeyExpansion.{sub_word}
 use Rattle.aes.proofs.States.{columns_are}

@@ -1,4 +1,3 @@
-use borrow.Author.Rules.{rules}
 use Rattle.aes.proofs.States.{round_is}
 use Rattle.aes.proofs.rounds.round.Goals as goal
 

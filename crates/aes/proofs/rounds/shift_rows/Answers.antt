@@ -1,4 +1,3 @@
-use borrow.Author.Rules.{rules}
 use Rattle.aes.specs.Cipher.{shift_rows}
 use Rattle.aes.proofs.States.{columns_are}
 use Rattle.aes.proofs.rounds.shift_rows.Goals as goal

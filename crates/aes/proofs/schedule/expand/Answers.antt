@@ -1,12 +1,10 @@
 use mathlib.Core.Path.{◌≡◌, refl, sym, ap₂, ◌∙◌}
-use Prim.Native.Nat.{◌≤◌, ◌-◌, ◌+◌, ◌*◌}
+use Prim.Native.Nat.{◌+◌, ◌*◌}
 use native.Mathlib.Omega.{arith}
-use lib.ListN.{length, take, length-set}
+use lib.ListN.{length-set}
 use lib.Seq.{take_all}
 use borrow.Author.Rules.{rules}
-use Rattle.aes.specs.Cipher.{word_at}
 use Rattle.aes.specs.KeyExpansion.{schedule, key_expansion}
-use Rattle.aes.specs.Word.{bytes, Products}
 use Rattle.aes.proofs.Expansion.{copied, whole, at_hand, grown}
 use Rattle.aes.proofs.schedule.expand.Goals as goal
 

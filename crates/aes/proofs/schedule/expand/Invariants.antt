@@ -1,13 +1,9 @@
-use mathlib.Core.Path.{◌≡◌, refl, sym, ap₂, ◌∙◌}
+use mathlib.Core.Path.{◌≡◌}
 use Prim.Native.Nat.{◌≤◌, ◌-◌, ◌+◌, ◌*◌}
-use native.Mathlib.Omega.{arith}
-use lib.ListN.{length, take, length-set}
-use lib.Seq.{take_all}
-use borrow.Author.Rules.{rules}
+use lib.ListN.{length, take}
 use Rattle.aes.specs.Cipher.{word_at}
-use Rattle.aes.specs.KeyExpansion.{schedule, key_expansion}
+use Rattle.aes.specs.KeyExpansion.{schedule}
 use Rattle.aes.specs.Word.{bytes, Products}
-use Rattle.aes.proofs.Expansion.{copied, whole, at_hand, grown}
 use Rattle.aes.proofs.schedule.expand.Given as goal
 
 -- The first loop lays the key; each turn of the second adds one word of the schedule to those that stand, of which the last is at hand.

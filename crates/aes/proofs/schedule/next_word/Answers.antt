@@ -1,4 +1,3 @@
-use borrow.Author.Rules.{rules}
 use Rattle.aes.proofs.Bytes.{added}
 use Rattle.aes.proofs.schedule.next_word.Goals as goal
 

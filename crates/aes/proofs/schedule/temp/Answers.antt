@@ -1,4 +1,3 @@
-use borrow.Author.Rules.{rules}
 use Rattle.aes.specs.KeyExpansion.{round_constants}
 use Rattle.aes.proofs.Expansion.{temp_turned, temp_same}
 use Rattle.aes.proofs.schedule.temp.Goals as goal

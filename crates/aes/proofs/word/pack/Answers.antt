@@ -1,4 +1,3 @@
-use borrow.Author.Rules.{rules}
 use Rattle.aes.proofs.Bytes.{packed}
 use Rattle.aes.proofs.word.pack.Goals as goal
 

@@ -1,5 +1,4 @@
 use mathlib.Core.Path.{ap, ◌∙◌}
-use borrow.Author.Rules.{rules}
 use Rattle.ccm.specs.Blocks.{padded}
 use Rattle.ccm.proofs.Padding.{rest_is, read_is}
 use Rattle.ccm.proofs.blocks.block_at.Goals as goal

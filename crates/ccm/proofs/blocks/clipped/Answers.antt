@@ -4,7 +4,6 @@ use Prim.Native.Nat.{ℕ, ◌-◌}
 use native.Mathlib.Omega.{arith}
 use lib.ListN.{take}
 use lib.Seq.{take_all}
-use borrow.Author.Rules.{rules}
 use Rattle.aes.specs.Word.{bytes_of}
 use Rattle.ccm.specs.Blocks.{padded}
 use Rattle.ccm.proofs.blocks.clipped.Goals as goal

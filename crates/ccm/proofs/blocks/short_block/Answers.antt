@@ -1,5 +1,4 @@
 use mathlib.Core.Path.{◌∙◌}
-use borrow.Author.Rules.{rules}
 use Rattle.ccm.proofs.Padding.{over_zeros}
 use Rattle.ccm.proofs.blocks.short_block.Goals as goal
 

@@ -1,11 +1,7 @@
-use mathlib.Core.Path.{◌≡◌, refl, sym, ap, ◌∙◌}
-use Prim.Native.Nat.{◌-◌}
-use lib.ListN.{length, drop}
-use borrow.Author.Rules.{rules}
+use mathlib.Core.Path.{refl, sym, ap, ◌∙◌}
 use Rattle.aes.specs.Cipher.{cipher}
 use Rattle.aes.specs.Word.{bytes_of}
-use Rattle.ccm.specs.Blocks.{xors, blocks}
-use Rattle.ccm.specs.Ccm.{chain}
+use Rattle.ccm.specs.Blocks.{xors}
 use Rattle.ccm.proofs.Turns.{absorbs, absorbed}
 use Rattle.ccm.proofs.chain.absorb.Goals as goal
 

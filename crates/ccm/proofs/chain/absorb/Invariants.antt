@@ -1,12 +1,10 @@
-use mathlib.Core.Path.{◌≡◌, refl, sym, ap, ◌∙◌}
+use mathlib.Core.Path.{◌≡◌}
 use Prim.Native.Nat.{◌-◌}
 use lib.ListN.{length, drop}
-use borrow.Author.Rules.{rules}
 use Rattle.aes.specs.Cipher.{cipher}
 use Rattle.aes.specs.Word.{bytes_of}
-use Rattle.ccm.specs.Blocks.{xors, blocks}
+use Rattle.ccm.specs.Blocks.{blocks}
 use Rattle.ccm.specs.Ccm.{chain}
-use Rattle.ccm.proofs.Turns.{absorbs, absorbed}
 use Rattle.ccm.proofs.chain.absorb.Given as goal
 
 -- What is left to absorb goes through the chain from where it stands, so that at the end it stands at the result.

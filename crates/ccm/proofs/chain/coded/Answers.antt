@@ -4,7 +4,6 @@ use Prim.Native.Nat.{ℕ, ◌+◌, ◌/◌, ◌%◌, suc}
 use native.Mathlib.Omega.{arith}
 use lib.ListN.{length, length-take}
 use lib.Seq.{take_at}
-use borrow.Author.Rules.{rules}
 use Rattle.octets.proofs.Lists.{laid_all}
 use Rattle.ccm.specs.Blocks.{two_octets}
 use Rattle.ccm.specs.Ccm.{coded}

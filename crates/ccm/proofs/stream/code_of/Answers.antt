@@ -1,6 +1,5 @@
 use mathlib.Core.Path.{ap, ◌∙◌}
 use lib.ListN.{take}
-use borrow.Author.Rules.{rules}
 use Rattle.aes.specs.Word.{bytes_of}
 use Rattle.ccm.specs.Limits.{code_octets}
 use Rattle.ccm.proofs.Strings.{take_xors}

@@ -1,5 +1,4 @@
 use mathlib.Core.Path.{ap, ◌∙◌}
-use borrow.Author.Rules.{rules}
 use Rattle.aes.specs.Cipher.{cipher}
 use Rattle.ccm.specs.Ccm.{S}
 use Rattle.ccm.proofs.stream.key_block.Goals as goal

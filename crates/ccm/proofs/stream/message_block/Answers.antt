@@ -1,4 +1,3 @@
-use borrow.Author.Rules.{rules}
 use Rattle.ccm.proofs.stream.message_block.Goals as goal
 
 -- By the test of the branch.

@@ -1,13 +1,10 @@
 use mathlib.Core.Path.{◌≡◌, refl, sym, ap, ◌∙◌}
 use mathlib.Core.Bool.{cond}
-use mathlib.Core.List.{◌++◌}
-use Prim.Native.Nat.{ℕ, ◌≤◌, ◌<◌, ◌-◌, ◌+◌, ◌*◌, ◌/◌}
+use Prim.Native.Nat.{ℕ, ◌<◌, ◌-◌, ◌+◌, ◌/◌}
 use native.Mathlib.Omega.{arith}
 use lib.ListN.{length, take, drop}
-use borrow.Author.Rules.{rules}
 use Rattle.aes.specs.Cipher.{cipher}
 use Rattle.aes.specs.Word.{bytes_of}
-use Rattle.ccm.specs.Limits.{most_message}
 use Rattle.ccm.specs.Blocks.{xors, most_two_octets, padded, blocks}
 use Rattle.ccm.specs.Ccm.{formatted, S, masked, chain}
 use Rattle.ccm.specs.Room.{counter_at}

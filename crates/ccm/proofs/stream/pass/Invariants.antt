@@ -1,18 +1,14 @@
-use mathlib.Core.Path.{◌≡◌, refl, sym, ap, ◌∙◌}
+use mathlib.Core.Path.{◌≡◌}
 use mathlib.Core.Bool.{cond}
 use mathlib.Core.List.{◌++◌}
-use Prim.Native.Nat.{ℕ, ◌≤◌, ◌<◌, ◌-◌, ◌+◌, ◌*◌, ◌/◌}
-use native.Mathlib.Omega.{arith}
+use Prim.Native.Nat.{◌≤◌, ◌-◌, ◌+◌, ◌*◌, ◌/◌}
 use lib.ListN.{length, take, drop}
-use borrow.Author.Rules.{rules}
 use Rattle.aes.specs.Cipher.{cipher}
 use Rattle.aes.specs.Word.{bytes_of}
 use Rattle.ccm.specs.Limits.{most_message}
-use Rattle.ccm.specs.Blocks.{xors, most_two_octets, padded, blocks}
-use Rattle.ccm.specs.Ccm.{formatted, S, masked, chain}
+use Rattle.ccm.specs.Blocks.{blocks}
+use Rattle.ccm.specs.Ccm.{S, masked, chain}
 use Rattle.ccm.specs.Room.{counter_at}
-use Rattle.aes.proofs.Laws.{length_cipher}
-use Rattle.ccm.proofs.Turns.{counter_within, counter_behind, counter_most, counter_as, spliced, length_spliced, block_masked, length_part, masks, masks_end, feeds, fed}
 use Rattle.ccm.proofs.stream.pass.Given as goal
 
 -- At each turn what is written and what is left to mask make the whole text, the message's rest goes through the chain from where it stands, and the

@@ -1,7 +1,5 @@
 use mathlib.Core.Path.{ap, ◌∙◌}
-use native.Mathlib.Omega.{arith}
 use lib.Dec.{lit≤}
-use borrow.Author.Rules.{rules}
 use Rattle.aes.specs.Cipher.{cipher}
 use Rattle.ccm.specs.Blocks.{most_two_octets}
 use Rattle.ccm.specs.Ccm.{S}
@@ -16,4 +14,4 @@ key_block-key-requires c =
 pub returns : goal.returns
 returns c =
     let a = c.args in
- record { first_value = c.key_block-key.ensures ∙ ap (S (cipher 10 a.w.now) a.nonce) c.counter.ensures; second_value = c.begin-x.ensures }
+    record { first_value = c.key_block-key.ensures ∙ ap (S (cipher 10 a.w.now) a.nonce) c.counter.ensures; second_value = c.begin-x.ensures }
