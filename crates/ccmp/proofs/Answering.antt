@@ -25,13 +25,20 @@ use Rattle.ccmp.proofs.Parts.{front_header, whole_kind, whole_mark}
 
 -- what a call hands back: its answer, the record and the output
 abbrev pub Sealed : Sender → List ℕ → List ℕ → Answer → Sender → List ℕ → Type 0
-Sealed s f o a t out = (told a ≡ told (seal_answer s f o)) × ((t ≡ seal_next s f o) × (out ≡ seal_output s f o))
+Sealed s f o a t out =
+    record { answer_value : told a ≡ told (seal_answer s f o); sender_value : t ≡ seal_next s f o; out_after : out ≡ seal_output s f o }
 
 abbrev pub PartsSealed : Sender → List ℕ → List ℕ → List ℕ → Answer → Sender → List ℕ → Type 0
-PartsSealed s head body o a t out = (told a ≡ told (parts_answer s head body o)) × ((t ≡ parts_next s head body o) × (out ≡ parts_output s head body o))
+PartsSealed s head body o a t out =
+    record {
+      answer_value : told a ≡ told (parts_answer s head body o);
+      sender_value : t ≡ parts_next s head body o;
+      out_after : out ≡ parts_output s head body o;
+    }
 
 abbrev pub Opened : Receiver → List ℕ → List ℕ → Answer → Receiver → List ℕ → Type 0
-Opened r f o a t out = (told a ≡ told (open_answer r f o)) × ((t ≡ open_next r f o) × (out ≡ open_output r f o))
+Opened r f o a t out =
+    record { answer_value : told a ≡ told (open_answer r f o); receiver_value : t ≡ open_next r f o; out_after : out ≡ open_output r f o }
 
 module _ (s : Sender) (f o : List ℕ) where
   abbrev sealed_done : Answer
@@ -41,7 +48,7 @@ module _ (s : Sender) (f o : List ℕ) where
   unfolding seal_answer sender_next seal_output
   seal_refused h n e =
       let a : seal_answer s f o ≡ Refused n = refused (seal_tests s f (length o)) [] h sealed_done n e in
-      rw a (refl, (refl, refl))
+      rw a record { answer_value = refl; sender_value = refl; out_after = refl }
 
   pub seal_unsound : sound_sender s ≡ false → Sealed s f o (Refused 1) s o
   seal_unsound e = seal_refused (header_of f) 1 (rw e)
@@ -56,7 +63,12 @@ module _ (s : Sender) (f o : List ℕ) where
   unfolding seal_answer seal_output
   seal_gives t p out passes ep et eo =
       let a : seal_answer s f o ≡ sealed_done = all_done (seal_tests s f (length o)) sealed_done passes in
-      rw a (ap (λ (x : ℕ). told (Done (s.last + 1) x (length f + added))) ep, (et (s.last + 1) (priority f) (length f + added), eo))
+      rw a
+      record {
+        answer_value = ap (λ (x : ℕ). told (Done (s.last + 1) x (length f + added))) ep;
+        sender_value = et (s.last + 1) (priority f) (length f + added);
+        out_after = eo;
+      }
 
 -- a frame in two parts: a refusal of the first is the answer, and where it passes its tests, the frame's answer is
 module _ (s : Sender) (head body o : List ℕ) where
@@ -64,7 +76,7 @@ module _ (s : Sender) (head body o : List ℕ) where
   unfolding parts_answer sender_next parts_output
   parts_refused h n e =
       let a : parts_answer s head body o ≡ Refused n = refused (head_tests s head) [] h (seal_answer s (head ++ body) o) n e in
-      rw a (refl, (refl, refl))
+      rw a record { answer_value = refl; sender_value = refl; out_after = refl }
 
   pub parts_whole : none_applies (head_tests s head) ≡ true → parts_answer s head body o ≡ seal_answer s (head ++ body) o
   unfolding parts_answer
@@ -111,7 +123,7 @@ module _ (r : Receiver) (f o : List ℕ) where
   -- a refusal, by its number
   answers : (n : ℕ) (t : Receiver) (out : List ℕ) → open_answer r f o ≡ Refused n → t ≡ receiver_next r (Refused n) → out ≡ o → Opened r f o (Refused n) t out
   unfolding open_output
-  answers n t out a et eo = rw a (refl, (et, eo))
+  answers n t out a et eo = rw a record { answer_value = refl; receiver_value = et; out_after = eo }
 
   pub open_refused : (h : Header) (n : ℕ) (t : Receiver) → Refuse n ≡ verdict (earlier_tests r f (length o)) h → t ≡ receiver_next r (Refused n)
       → Opened r f o (Refused n) t o
@@ -135,4 +147,4 @@ module _ (r : Receiver) (f o : List ℕ) where
     open_gives t n p out w en ep et eo =
         let is : Done n p (length f - added) ≡ opened_done = ap₂ (λ (x y : ℕ). Done x y (length f - added)) en ep in
         let a : open_answer r f o ≡ opened_done = code_decides ∙ rw w in
-        rw a (ap told is, (et (length f - added) ∙ ap (receiver_next r) is, eo))
+        rw a record { answer_value = ap told is; receiver_value = et (length f - added) ∙ ap (receiver_next r) is; out_after = eo }

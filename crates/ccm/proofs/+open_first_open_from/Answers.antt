@@ -1,5 +1,5 @@
 -- The first part and what is opened after it make the whole.
-use Rattle.std.proofs.Common.{◌≡◌, ℕ, ◌+◌, ◌-◌, ◌*◌, ◌<◌, ◌≤◌, List, length, take, drop, sym, ap, subst, ◌∙◌, arith, length-drop}
+use Rattle.std.proofs.Common.{true, false, ◌≡◌, ℕ, ◌+◌, ◌-◌, ◌*◌, ◌<◌, ◌≤◌, List, length, take, drop, sym, ap, subst, ◌∙◌, arith, length-drop}
 use Rattle.std.proofs.Math.ListN.{length-take}
 use Rattle.octets.proofs.Lists.{laid_all}
 use Rattle.aes.specs.Cipher.{cipher}
@@ -37,7 +37,7 @@ pub open_first-returns-then-not-open_from : goal.open_first-returns-then-not-ope
 open_first-returns-then-not-open_from t c =
     let a = c.args in
     let E = cipher 10 a.w.now in
-    let wrong = c.if-not-open_from.true in
+    let wrong : c.open_from.result ≡ false = cc in
     let long = c.requires.1 in
     record {
       value = sym wrong ∙ right_parts E (length_cipher 10 a.w.now) a.nonce a.i a.text.now long (bytes_of a.from.second) _ _ c.pass-next.ensures.second_value c.open_from.ensures.value;
@@ -49,7 +49,7 @@ open_first-returns t c =
     let a = c.args in
     let E = cipher 10 a.w.now in
     let hE = length_cipher 10 a.w.now in
-    let found = c.if-not-open_from.false in
+    let found : c.open_from.result ≡ true = cc in
     let long = c.requires.1 in
     let fits : held ≤ length a.out.now = omega (arith, c.requires.0.room_holds, long) in
     let part = c.copy.ensures.copied ∙ laid_all _ _ (simp length-take (omega (arith, fits))) ∙ c.pass-next.ensures.out_after in

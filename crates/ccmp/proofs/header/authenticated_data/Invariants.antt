@@ -1,11 +1,12 @@
-use Rattle.std.proofs.Common.{◌≡◌, ℕ, ◌-◌, ◌≤◌, List, length, take, replicate, sym, refl, ap, ◌∙◌, arith, take_at, rules}
-use lib.Seq.{take-length}
-use Rattle.octets.proofs.Lists.{laid, lay}
+use Rattle.std.proofs.Common.{◌≡◌, ℕ, ◌-◌, ◌≤◌, List, replicate}
+use Rattle.octets.proofs.Lists.{laid}
 use Rattle.rules.specs.Limits.{most_data}
-use Rattle.rules.specs.Header.{authenticated, authenticated_length}
-use Rattle.rules.proofs.Fields.{header_range, authenticated_size, data_range}
-use Rattle.ccmp.proofs.Headers.{Fields, fields_of}
+use Rattle.rules.specs.Header.{authenticated}
 use Rattle.ccmp.proofs.header.authenticated_data.Given as goal
+
+-- After i turns the first i octets of the array are those of the authenticated data.
+abbrev pub zeros : List ℕ
+zeros = replicate most_data 0
 
 abbrev pub invariant-loop-i : goal.invariant-loop-i
 invariant-loop-i l = (l.i ≤ l.header.«data») × (l.data ≡ laid l.i (authenticated l.frame) zeros)

@@ -1,4 +1,4 @@
-use Rattle.std.proofs.Common.{ℕ, List, set, ap, ◌∙◌, rules}
+use Rattle.std.proofs.Common.{ℕ, List, set, ap, ◌∙◌}
 use Rattle.ccmp.proofs.Writes.{head_layout}
 use Rattle.ccmp.proofs.header.put_header.Goals as goal
 
@@ -7,4 +7,4 @@ pub returns : goal.returns
 returns c =
     let a = c.args in
     let p = c.requires in
-    ap (λ (l : List ℕ). set l 1 a.second) c.copy.ensures.copied ∙ head_layout a.frame.now a.out-1.now a.h a.second p.0 p.1
+    ap (λ (l : List ℕ). set l 1 a.second) c.copy.ensures.copied ∙ head_layout a.frame.now a.out.now a.h a.second p.0 p.1

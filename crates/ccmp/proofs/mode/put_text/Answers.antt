@@ -1,4 +1,3 @@
-use Rattle.std.proofs.Common.{rules}
 use Rattle.ccmp.proofs.Modes.{text_put}
 use Rattle.ccmp.proofs.mode.put_text.Goals as goal
 
@@ -7,4 +6,5 @@ pub returns : goal.returns
 returns c =
     let a = c.args in
     let pre = c.requires in
-    text_put a.key a.nonce a.aad.now a.out-1.now a.body.now _ pre.0.0 pre.0.1 pre.0.2 pre.1 c.seal.ensures.out_after
+    text_put a.key a.nonce a.aad.now a.out.now a.body.now _ pre.least_data_in_bounds.0 pre.least_data_in_bounds.1 pre.least_data_in_bounds.2
+    pre.code_octets_in_bounds c.seal.ensures.out_after

@@ -1,4 +1,4 @@
-use Rattle.std.proofs.Common.{sym, rules}
+use Rattle.std.proofs.Common.{sym}
 use Rattle.ccmp.proofs.Numbers.{nonce_octets}
 use Rattle.ccmp.proofs.nonce.nonce_of.Goals as goal
 

@@ -1,4 +1,4 @@
-use Rattle.std.proofs.Common.{sym, rules}
+use Rattle.std.proofs.Common.{sym}
 use Rattle.ccmp.proofs.Numbers.{header_octets}
 use Rattle.ccmp.proofs.number.ccmp_header.Goals as goal
 

@@ -1,4 +1,4 @@
-use Rattle.std.proofs.Common.{arith, rules}
+use Rattle.std.proofs.Common.{arith}
 use Rattle.ccmp.proofs.Numbers.{number_octets}
 use Rattle.ccmp.proofs.number.number_at.Goals as goal
 

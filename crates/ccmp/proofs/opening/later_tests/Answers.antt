@@ -1,192 +1,189 @@
-use Rattle.std.proofs.Common.{◌≡◌, ℕ, ◌+◌, ◌-◌, ◌≤◌, true, false, eqb, ltb, List, length, sym, ap, ◌∙◌, arith, rules, le-ltb, lt-ltb}
-use borrow.Author.Tests.{not-true, not-false}
+use Rattle.std.proofs.Common.{◌≡◌, ℕ, ◌+◌, ◌-◌, ◌/◌, ◌<◌, ◌≤◌, Bool, true, false, List, length, get_or, sym, ap, ◌∙◌, arith, le-ltb, lt-ltb}
+use lib.Bits.{bit_and}
 use Rattle.octets.specs.Octets.{same}
 use Rattle.rules.specs.Limits.{least_body, most_body}
-use Rattle.rules.specs.Header.{header_length, address2, priority}
-use Rattle.rules.specs.Nonce.{ccmp_of, extended, key_id_in, number}
+use Rattle.rules.specs.Header.{header_length, address2, priority, header_of}
+use Rattle.rules.specs.Nonce.{number}
 use Rattle.rules.specs.Mode.{added}
 use Rattle.rules.specs.Windows.{takes}
-use Rattle.rules.specs.Records.{window_of}
+use Rattle.rules.specs.Records.{window_of, sound_receiver}
 use Rattle.rules.specs.Answers.{outside}
-use Rattle.rules.proofs.Fields.{header_range, priority_below}
+use Rattle.rules.specs.Opening.{earlier_tests}
+use Rattle.rules.specs.declared.Header.{Header}
+use Rattle.rules.specs.declared.Receiver.{Receiver}
+use Rattle.rules.proofs.Fields.{priority_below}
 use Rattle.rules.proofs.Passing.{inside}
 use Rattle.rules.proofs.Steps.{sound_size}
-use Rattle.ccmp.proofs.Headers.{Fields, fields_of}
+use Rattle.ccmp.specs.Verdict.{verdict}
+use Rattle.ccmp.specs.declared.verdict.Verdict.{Verdict}
+use Rattle.ccmp.specs.declared.verdict.Verdict.TheVariants.{Refuse, Pass}
+use Rattle.ccmp.proofs.Headers.{fields_of}
 use Rattle.ccmp.proofs.Keys.{extended_not, extended_set, id_other, id_same}
 use Rattle.ccmp.proofs.Verdicts.{Headed, headed}
 use Rattle.ccmp.proofs.opening.later_tests.Goals as goal
 
 -- Test by test, after those that passed before.
-abbrev F : goal.Start → List ℕ
-F c = c.args.frame.now
+module _ (r : Receiver) (f : List ℕ) (h : Header) (room : ℕ) (sound : sound_receiver r ≡ true) (t : Headed 0 f h) where
+  abbrev Found : Verdict → Type 0
+  Found v = v ≡ verdict (earlier_tests r f room) (header_of f)
 
-head : (c : goal.Start) → Headed 0 (F c) c.args.header
-head c = headed 0 (F c) c.args.header c.requires.1
+  abbrev body_outside : ℕ → Bool
+  body_outside k = outside (least_body + added) (most_body + added) (length f - k)
 
-fields : (c : goal.Start) → Fields (F c) c.args.header
-fields c = fields_of (F c) c.args.header (head c).is
+  length_is : h.length ≡ header_length f
+  length_is = (fields_of f h t.is).length_is
 
--- the octets after the header
-body_is : (c : goal.After-outside)
-    → let s = c in outside (least_body + added) (most_body + added) (length (F s) - header_length (F s)) ≡ c.outside.result
-body_is c =
-    let s = c in
-    ap (λ (k : ℕ). outside (least_body + added) (most_body + added) (length (F s) - k)) (sym (fields s).length_is) ∙ sym c.outside.ensures
+  -- the octets after the header
+  body_is : body_outside (header_length f) ≡ body_outside h.length
+  body_is = ap body_outside (sym length_is)
 
-within : (c : goal.Else-outside) → let s = c in outside (least_body + added) (most_body + added) (length (F s) - header_length (F s)) ≡ false
-within c = body_is c ∙ c.if-outside.false
+  found_5 : body_outside h.length ≡ true → Found (Refuse 5)
+  found_5 e = rw (sound, t.short, t.kind, t.mark, t.cut, body_is ∙ e)
 
--- the CCMP header and the code stand after the header
-long : (c : goal.Else-outside) → c.args.header.length + (least_body + added) ≤ length (F c)
-long c =
-    let s = c in
-    omega (arith, inside (least_body + added) (most_body + added) (length (F s) - header_length (F s)) (within c), (fields s).length_is, (head s).whole)
+  module _ (w : body_outside h.length ≡ false) where
+    -- the CCMP header and the code stand after the header
+    long : h.length + (least_body + added) ≤ length f
+    long = omega (arith, inside (least_body + added) (most_body + added) (length f - header_length f) (body_is ∙ w), length_is, t.whole)
 
-room_holds : (c : goal.Else-room-frame) → let s = c in ltb s.args.room (length (F s) - added) ≡ false
-room_holds c = le-ltb _ _ c.if-room-frame.false
+    found_6 : room < length f - added → Found (Refuse 6)
+    found_6 l = rw (sound, t.short, t.kind, t.mark, t.cut, body_is ∙ w, lt-ltb room (length f - added) l)
 
--- A2, as it is compared
-peer_is : (c : goal.After-equal) → let s = c in same (address2 (F s)) s.args.r.peer-1 ≡ c.equal.result
-unfolding address2
-peer_is c = sym c.equal.ensures
+    module _ (enough : length f - added ≤ room) where
+      found_7 : same (address2 f) r.peer ≡ false → Found (Refuse 7)
+      found_7 e = rw (sound, t.short, t.kind, t.mark, t.cut, body_is ∙ w, le-ltb room (length f - added) enough, e)
 
-peer : (c : goal.Else-not-equal) → let s = c in same (address2 (F s)) s.args.r.peer-1 ≡ true
-peer c = peer_is c ∙ not-false _ c.if-not-equal.false
+      module _ (peer : same (address2 f) r.peer ≡ true) (o : get_or f (h.length + 3) 0 < 256) where
+        abbrev octet : ℕ
+        octet = get_or f (h.length + 3) 0
 
-ext : (c : goal.Else-octet-eq0) → eqb (extended (ccmp_of (F c))) 0 ≡ false
-ext c =
-    let s = c in
-    extended_set (F s) s.args.header.length (fields s).length_is (c.shared_slice_known-2-1.given (s.args.header.length + 3)).fits c.if-octet-eq0.false
+        found_8 : bit_and octet 32 ≡ 0 → Found (Refuse 8)
+        found_8 e =
+            rw (sound, t.short, t.kind, t.mark, t.cut, body_is ∙ w, le-ltb room (length f - added) enough, peer, extended_not f h.length length_is o e)
 
-id_is : (c : goal.Else-octet-r) → let s = c in eqb (key_id_in (ccmp_of (F s))) s.args.r.key_id ≡ true
-id_is c = let s = c in id_same (F s) s.args.header.length (fields s).length_is _ c.if-octet-r.false
+        module _ (x : bit_and octet 32 ≡ 0 → ⊥) where
+          found_9 : (octet / 64 ≡ r.key_id → ⊥) → Found (Refuse 9)
+          found_9 e =
+              rw (
+                sound,
+                t.short,
+                t.kind,
+                t.mark,
+                t.cut,
+                body_is ∙ w,
+                le-ltb room (length f - added) enough,
+                peer,
+                extended_set f h.length length_is o x,
+                id_other f h.length length_is r.key_id e,
+              )
+
+          module _ (id : octet / 64 ≡ r.key_id) where
+            found_10 : takes (window_of r (priority f)) (number f) ≡ false → Found (Refuse 10)
+            found_10 e =
+                rw (
+                  sound,
+                  t.short,
+                  t.kind,
+                  t.mark,
+                  t.cut,
+                  body_is ∙ w,
+                  le-ltb room (length f - added) enough,
+                  peer,
+                  extended_set f h.length length_is o x,
+                  id_same f h.length length_is r.key_id id,
+                  e,
+                )
+
+            found_none : takes (window_of r (priority f)) (number f) ≡ true → Found (Pass h)
+            found_none e =
+                rw (
+                  sound,
+                  t.short,
+                  t.kind,
+                  t.mark,
+                  t.cut,
+                  body_is ∙ w,
+                  le-ltb room (length f - added) enough,
+                  peer,
+                  extended_set f h.length length_is o x,
+                  id_same f h.length length_is r.key_id id,
+                  e,
+                  t.is,
+                )
 
 pub overflow_sub-frame : goal.overflow_sub-frame
-overflow_sub-frame c = omega (arith, (fields c).length_is, (head c).whole)
+overflow_sub-frame c =
+    let a = c.args in
+    let t = headed 0 a.frame.now a.header c.requires.1 in
+    omega (arith, (fields_of a.frame.now a.header t.is).length_is, t.whole)
 
 pub returns-then-outside : goal.returns-then-outside
 returns-then-outside c =
-    let h = head c in
-    rw (c.requires.0, h.short, h.kind, h.mark, h.cut, body_is c ∙ c.if-outside.true)
-
-pub overflow_sub-frame-2 : goal.overflow_sub-frame-2
-overflow_sub-frame-2 c = omega (arith, long c)
+    let a = c.args in
+    found_5 a.r a.frame.now a.header a.room c.requires.0 (headed 0 a.frame.now a.header c.requires.1) (sym c.outside.ensures ∙ c.if-outside.true)
 
 pub returns-then-room-frame : goal.returns-then-room-frame
 returns-then-room-frame c =
-    let h = head c in
-    rw (c.requires.0, h.short, h.kind, h.mark, h.cut, within c, lt-ltb _ _ c.if-room-frame.true)
-
-pub slice_bounds-equal-end : goal.slice_bounds-equal-end
-slice_bounds-equal-end c = omega (arith, (head c).long)
+    let a = c.args in
+    found_6 a.r a.frame.now a.header a.room c.requires.0 (headed 0 a.frame.now a.header c.requires.1)
+    (sym c.outside.ensures ∙ c.if-outside.false) c.if-room-frame.true
 
 pub returns-then-not-equal : goal.returns-then-not-equal
+unfolding address2
 returns-then-not-equal c =
-    let h = head c in
-    rw (c.requires.0, h.short, h.kind, h.mark, h.cut, within c, room_holds c, peer_is c ∙ not-true _ c.if-not-equal.true)
-
-pub overflow_add-octet : goal.overflow_add-octet
-overflow_add-octet c =
-    record { fits = omega (arith, (fields c).length_is, header_range (F c)) }
-
-pub bounds-frame-h : goal.bounds-frame-h
-bounds-frame-h c = omega (arith, long c)
+    let a = c.args in
+    found_7 a.r a.frame.now a.header a.room c.requires.0 (headed 0 a.frame.now a.header c.requires.1)
+    (sym c.outside.ensures ∙ c.if-outside.false) c.if-room-frame.false (sym c.equal.ensures ∙ c.if-not-equal.true)
 
 pub returns-then-octet-eq0 : goal.returns-then-octet-eq0
+unfolding address2
 returns-then-octet-eq0 c =
-    let e₂ = else2 c in
-    let s = start e₂ in
-    let h = head s in
-    let at = s.args.header.length + 3 in
-    rw (
-      s.requires.0,
-      h.short,
-      h.kind,
-      h.mark,
-      h.cut,
-      within e₂,
-      room_holds e₂,
-      peer c,
-      extended_not (F s) s.args.header.length (fields s).length_is (c.shared_slice_known-2-1.given at).fits c.if-octet-eq0.true,
-    )
+    let a = c.args in
+    found_8 a.r a.frame.now a.header a.room c.requires.0 (headed 0 a.frame.now a.header c.requires.1)
+    (sym c.outside.ensures ∙ c.if-outside.false) c.if-room-frame.false (sym c.equal.ensures ∙ c.if-not-equal.false)
+    (c.type_inv.frame (a.header.length + 3)).fits c.if-octet-eq0.true
 
 pub returns-then-octet-r : goal.returns-then-octet-r
+unfolding address2
 returns-then-octet-r c =
-    let e₃ = else3 c in
-    let e₂ = else2 e₃ in
-    let s = start e₂ in
-    let h = head s in
-    rw (
-      s.requires.0,
-      h.short,
-      h.kind,
-      h.mark,
-      h.cut,
-      within e₂,
-      room_holds e₂,
-      peer e₃,
-      ext c,
-      id_other (F s) s.args.header.length (fields s).length_is _ c.if-octet-r.true,
-    )
+    let a = c.args in
+    found_9 a.r a.frame.now a.header a.room c.requires.0 (headed 0 a.frame.now a.header c.requires.1)
+    (sym c.outside.ensures ∙ c.if-outside.false) c.if-room-frame.false (sym c.equal.ensures ∙ c.if-not-equal.false)
+    (c.type_inv.frame (a.header.length + 3)).fits c.if-octet-eq0.false c.if-octet-r.true
 
 pub window_of-w-requires : goal.window_of-w-requires
 window_of-w-requires c =
-    omega (arith, (fields c).priority_is, priority_below (F c))
+    let a = c.args in
+    let t = headed 0 a.frame.now a.header c.requires.1 in
+    omega (arith, (fields_of a.frame.now a.header t.is).priority_is, priority_below a.frame.now)
 
 pub number_at-requires : goal.number_at-requires
 number_at-requires c =
-    ((fields c).length_is, omega (arith, long c))
+    let a = c.args in
+    let t = headed 0 a.frame.now a.header c.requires.1 in (
+      (fields_of a.frame.now a.header t.is).length_is,
+      omega (arith, long a.r a.frame.now a.header a.room c.requires.0 t (sym c.outside.ensures ∙ c.if-outside.false)),
+    )
 
 pub takes-requires : goal.takes-requires
 takes-requires c =
     rw c.window_of-w.ensures (sound_size c.args.r c.requires.0).1
 
--- whether the number is taken, as it is tested
-taken_is : (c : goal.After-takes) → let s = c in
-    takes (window_of s.args.r (priority (F s))) (number (F s)) ≡ c.takes.result
-taken_is c =
-    let read = c in
-    let found = read in
-    let s = found in
-    rw (← (fields s).priority_is, ← read.number_at.ensures, ← found.window_of-w.ensures) (sym c.takes.ensures)
-
 pub returns-then-not-takes : goal.returns-then-not-takes
+unfolding address2
 returns-then-not-takes c =
-    let e₃ = else3 c in
-    let e₂ = else2 e₃ in
-    let s = start e₂ in
-    let h = head s in
-    rw (
-      s.requires.0,
-      h.short,
-      h.kind,
-      h.mark,
-      h.cut,
-      within e₂,
-      room_holds e₂,
-      peer e₃,
-      ext c,
-      id_is c,
-      taken_is c ∙ not-true _ c.if-not-takes.true,
-    )
+    let a = c.args in
+    let t = headed 0 a.frame.now a.header c.requires.1 in
+    found_10 a.r a.frame.now a.header a.room c.requires.0 t
+    (sym c.outside.ensures ∙ c.if-outside.false) c.if-room-frame.false (sym c.equal.ensures ∙ c.if-not-equal.false)
+    (c.type_inv.frame (a.header.length + 3)).fits c.if-octet-eq0.false c.if-octet-r.false
+    (rw (← (fields_of a.frame.now a.header t.is).priority_is, ← c.number_at.ensures, ← c.window_of-w.ensures) (sym c.takes.ensures ∙ c.if-not-takes.true))
 
 pub returns : goal.returns
+unfolding address2
 returns c =
-    let e₃ = else3 c in
-    let e₂ = else2 e₃ in
-    let s = start e₂ in
-    let h = head s in
-    rw (
-      s.requires.0,
-      h.short,
-      h.kind,
-      h.mark,
-      h.cut,
-      within e₂,
-      room_holds e₂,
-      peer e₃,
-      ext c,
-      id_is c,
-      taken_is c ∙ not-false _ c.if-not-takes.false,
-      h.is,
-    )
+    let a = c.args in
+    let t = headed 0 a.frame.now a.header c.requires.1 in
+    found_none a.r a.frame.now a.header a.room c.requires.0 t
+    (sym c.outside.ensures ∙ c.if-outside.false) c.if-room-frame.false (sym c.equal.ensures ∙ c.if-not-equal.false)
+    (c.type_inv.frame (a.header.length + 3)).fits c.if-octet-eq0.false c.if-octet-r.false
+    (rw (← (fields_of a.frame.now a.header t.is).priority_is, ← c.number_at.ensures, ← c.window_of-w.ensures) (sym c.takes.ensures ∙ c.if-not-takes.false))

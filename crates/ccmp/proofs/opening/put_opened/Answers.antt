@@ -1,12 +1,15 @@
-use Rattle.std.proofs.Common.{◌≡◌, ℕ, ◌+◌, ◌-◌, ◌≤◌, not, List, ◌++◌, length, take, drop, sym, ap, ◌∙◌, ap₂, arith, length-drop, length-take, take_all, rules}
-use mathlib.Core.Option.{Option}
+use Rattle.std.proofs.Common.{◌≡◌, ℕ, ◌+◌, ◌-◌, ◌≤◌, Bool, true, false, not, List, ◌++◌, length, take, drop, sym, ap, ◌∙◌, ap₂, arith, length-drop, length-take, take_all}
 use borrow.Author.Tests.{not-true, not-false}
+use mathlib.Core.Option.{Option}
 use Rattle.octets.specs.Options.{contents, is_none}
 use Rattle.rules.specs.Limits.{ccmp_octets}
-use Rattle.rules.specs.Header.{address2}
-use Rattle.rules.specs.Nonce.{nonce}
-use Rattle.rules.specs.Mode.{added}
+use Rattle.rules.specs.Header.{address2, authenticated, header_of}
+use Rattle.rules.specs.Nonce.{nonce, number}
+use Rattle.rules.specs.Mode.{added, opened_body}
 use Rattle.rules.specs.Tests.{body_of}
+use Rattle.rules.specs.Opening.{Openable}
+use Rattle.rules.specs.declared.Header.{Header}
+use Rattle.rules.specs.declared.Receiver.{Receiver}
 use Rattle.rules.proofs.Fields.{header_range, data_range}
 use Rattle.ccmp.proofs.Headers.{Fields, fields_of}
 use Rattle.ccmp.proofs.Writes.{length_replaced}
@@ -14,42 +17,79 @@ use Rattle.ccmp.proofs.Frames.{unprotect_is, given_is, not_opened, was_opened_le
 use Rattle.ccmp.proofs.opening.put_opened.Goals as goal
 
 -- What the mode says and writes is the body, which stands after the header.
-abbrev F : goal.Start → List ℕ
-F c = c.args.frame.now
+module _ (r : Receiver) (f o : List ℕ) (h : Header) (is : h ≡ header_of f) (ok : Openable r f (length o)) where
+  fields : Fields f h
+  fields = fields_of f h is
 
-abbrev O : goal.Start → List ℕ
-O c = c.args.out-1.now
+  -- the header, the CCMP header and more stand in the frame, and the header in the output
+  long : h.length + added ≤ length f
+  long = omega (arith, fields.length_is, ok.least, ok.whole)
 
-abbrev H : goal.Start → ℕ
-H c = c.args.header.length
+  fits : h.length ≤ length o
+  fits = omega (arith, long, ok.enough)
 
-fields : (c : goal.Start) → Fields (F c) c.args.header
-fields c = fields_of (F c) c.args.header c.requires.0
+  module _ (n : ℕ) (num : n ≡ number f) (N d : List ℕ) (eN : N ≡ nonce h.priority (address2 f) n) (ed : take h.«data» d ≡ authenticated f) where
+    abbrev A : List ℕ
+    A = take (h.«data» - 0) d
 
--- the header, the CCMP header and more stand in the frame, and the header in the output
-long : (c : goal.Start) → H c + added ≤ length (F c)
-long c = omega (arith, (fields c).length_is, c.requires.2.least, c.requires.2.whole)
+    abbrev T : List ℕ
+    T = take (length f - (h.length + ccmp_octets)) (drop (h.length + ccmp_octets) f)
 
-fits : (c : goal.Start) → H c ≤ length (O c)
-fits c = omega (arith, long c, c.requires.2.enough)
+    mode_given : opened_body r.key N A T ≡ body_of r.key f
+    mode_given =
+        let e : h.«data» - 0 ≡ h.«data» = omega arith in
+        given_is r h.length f o fields.length_is ok N A T
+        (eN ∙ ap₂ (λ (p k : ℕ). nonce p (address2 f) k) fields.priority_is num)
+        (ap (λ (k : ℕ). take k d) e ∙ ed)
+        (take_all (length f - (h.length + ccmp_octets)) (drop (h.length + ccmp_octets) f) (omega (arith, length-drop (h.length + ccmp_octets) f)))
+
+    -- what the mode leaves of the output from octet h on
+    module _ (ys : List ℕ) (said : Bool) (es : said ≡ not (is_none (opened_body r.key N A T)))
+        (ey : ys ≡ contents (opened_body r.key N A T) ++ drop (length (contents (opened_body r.key N A T))) (take (length o - h.length) (drop h.length o))) where
+      said_is : said ≡ not (is_none (body_of r.key f))
+      said_is = es ∙ ap (λ (q : Option (List ℕ)). not (is_none q)) mode_given
+
+      left_is : ys ≡ contents (body_of r.key f) ++ drop (length (contents (body_of r.key f))) (drop h.length o)
+      left_is =
+          let part : take (length o - h.length) (drop h.length o) ≡ drop h.length o
+          = take_all (length o - h.length) (drop h.length o) (omega (arith, length-drop h.length o)) in
+          ey ∙ ap₂ (λ (q : Option (List ℕ)) (l : List ℕ). contents q ++ drop (length (contents q)) l) mode_given part
 
 pub nonce_of-nonce-requires : goal.nonce_of-nonce-requires
-nonce_of-nonce-requires c = omega (arith, long c, (fields c).length_is, header_range (F c))
-
-pub authenticated_data-data-requires : goal.authenticated_data-data-requires
-authenticated_data-data-requires c = (c.requires.0, c.requires.2.whole)
+nonce_of-nonce-requires c =
+    let a = c.args in
+    let f = a.frame.now in
+    let o = a.out.now in
+    omega (arith, long a.r f o a.header c.requires.0 c.requires.2, (fields a.r f o a.header c.requires.0 c.requires.2).length_is, header_range f)
 
 pub overflow_add-text : goal.overflow_add-text
-overflow_add-text c = record { fits = omega (arith, (fields c).length_is, header_range (F c)) }
+overflow_add-text c =
+    let a = c.args in
+    record { fits = omega (arith, (fields_of a.frame.now a.header c.requires.0).length_is, header_range a.frame.now) }
 
 pub slice_bounds-put_body-end : goal.slice_bounds-put_body-end
-slice_bounds-put_body-end c = omega (arith, (fields c).data_is, data_range (F c))
+slice_bounds-put_body-end c =
+    let a = c.args in
+    omega (arith, (fields_of a.frame.now a.header c.requires.0).data_is, data_range a.frame.now)
+
+pub slice_bounds-put_body-count-2 : goal.slice_bounds-put_body-count-2
+slice_bounds-put_body-count-2 c = let a = c.args in omega (arith, long a.r a.frame.now a.out.now a.header c.requires.0 c.requires.2)
+
+pub slice_bounds-put_body-start-2 : goal.slice_bounds-put_body-start-2
+slice_bounds-put_body-start-2 c = let a = c.args in omega (arith, long a.r a.frame.now a.out.now a.header c.requires.0 c.requires.2)
+
+pub slice_bounds-put_body-count-3 : goal.slice_bounds-put_body-count-3
+slice_bounds-put_body-count-3 c = let a = c.args in fits a.r a.frame.now a.out.now a.header c.requires.0 c.requires.2
+
+pub slice_bounds-put_body-start-3 : goal.slice_bounds-put_body-start-3
+slice_bounds-put_body-start-3 c = let a = c.args in fits a.r a.frame.now a.out.now a.header c.requires.0 c.requires.2
 
 pub put_body-requires : goal.put_body-requires
 put_body-requires c =
-    let f = F c in
-    let o = O c in
-    let h = H c in
+    let a = c.args in
+    let f = a.frame.now in
+    let o = a.out.now in
+    let h = a.header.length in
     omega (
       arith,
       length-take (length f - (h + ccmp_octets)) (drop (h + ccmp_octets) f),
@@ -57,66 +97,51 @@ put_body-requires c =
       length-take (length o - h) (drop h o),
       length-drop h o,
       c.requires.2.enough,
-      long c,
+      long a.r f o a.header c.requires.0 c.requires.2,
     )
 
--- what the mode leaves of the output from octet h on
-abbrev Y : goal.After-put_body → List ℕ
-Y c = c.put_body.new.out
-
-abbrev body : goal.After-put_body → Option (List ℕ)
-body c = body_of c.args.r.key-1 (F c)
-
-mode-gives : (c : goal.After-put_body)
-    → (c.put_body.result ≡ not (is_none (body c)))
-    × (Y c ≡ contents (body c) ++ drop (length (contents (body c))) (drop (H c) (O c)))
-mode-gives c =
-    let a = c in
-    let d = a in
-    let s = a in
-    let f = F s in
-    let o = O s in
-    let h = H s in
-    let e : s.args.header.«data» - 0 ≡ s.args.header.«data» = omega arith in
-    let nonce-is = d.nonce_of-nonce.ensures ∙ ap₂ (λ (p n : ℕ). nonce p (address2 f) n) (fields s).priority_is s.requires.1 in
-    let data_is = ap (λ (k : ℕ). take k d.authenticated_data-data.result) e ∙ d.authenticated_data-data.ensures in
-    let text_is = take_all (length f - (h + ccmp_octets)) (drop (h + ccmp_octets) f) (omega (arith, length-drop (h + ccmp_octets) f)) in
-    let part_is = take_all (length o - h) (drop h o) (omega (arith, length-drop h o)) in
-    let is = given_is s.args.r h f o (fields s).length_is s.requires.2 _ _ _ nonce-is data_is text_is in (
-      c.put_body.ensures.value ∙ ap (λ (q : Option (List ℕ)). not (is_none q)) is,
-      c.put_body.ensures.out_after ∙ ap₂ (λ (q : Option (List ℕ)) (l : List ℕ). contents q ++ drop (length (contents q)) l) is part_is,
+pub put_header-requires : goal.put_header-requires
+put_header-requires c =
+    let a = c.args in
+    let f = a.frame.now in
+    let o = a.out.now in
+    let h = a.header.length in
+    let fit = fits a.r f o a.header c.requires.0 c.requires.2 in (
+      omega (arith, (fields_of f a.header c.requires.0).length_is, header_range f),
+      omega (arith, long a.r f o a.header c.requires.0 c.requires.2),
+      omega (arith, fit, length_replaced o c.put_body.new.out h fit),
     )
 
 pub returns-then-not-put_body : goal.returns-then-not-put_body
 returns-then-not-put_body c =
-    let g = mode-gives c in
-    let no = not-true _ c.if-not-put_body.true in
-    let none = not-false _ (sym g.0 ∙ no) in
- record { value = sym no ∙ g.0; out_after = not_opened c.args.r (H c) (F c) (O c) (fields c).length_is c.requires.2 (Y c) (fits c) g.1 none }
-
-pub put_header-requires : goal.put_header-requires
-put_header-requires c =
-    let is = (fields c).length_is in (
-      omega (arith, is, header_range (F c)),
-      omega (arith, long c),
-      omega (arith, fits c, length_replaced (O c) (Y c) (H c) (fits c)),
-    )
+    let a = c.args in
+    let f = a.frame.now in
+    let o = a.out.now in
+    let ok = c.requires.2 in
+    let ys = c.put_body.new.out in
+    let said = said_is a.r f o a.header c.requires.0 ok a.n c.requires.1 _ _ c.nonce_of-nonce.ensures c.authenticated_data-data.ensures ys c.put_body.result c.put_body.ensures.value c.put_body.ensures.out_after in
+    let left = left_is a.r f o a.header c.requires.0 ok a.n c.requires.1 _ _ c.nonce_of-nonce.ensures c.authenticated_data-data.ensures ys c.put_body.result c.put_body.ensures.value c.put_body.ensures.out_after in
+    let is : false ≡ not (is_none (body_of a.r.key f)) = sym c.if-not-put_body.true ∙ said in
+    let none : is_none (body_of a.r.key f) ≡ true = not-false _ (sym is) in
+    record {
+      value = is;
+      out_after = not_opened a.r a.header.length f o (fields_of f a.header c.requires.0).length_is ok ys (fits a.r f o a.header c.requires.0 ok) left none;
+    }
 
 pub returns : goal.returns
 returns c =
-    let g = mode-gives c in
-    let yes = not-false _ c.if-not-put_body.false in
-    let some = not-true _ (sym g.0 ∙ yes) in
-    let head_is = unprotect_is (F c) (H c) (omega (arith, (fields c).length_is, header_range (F c))) (c.shared_slice_known-1.given 1).fits in record { value = sym yes ∙ g.0; out_after = c.put_header.ensures ∙ was_opened_lem c.args.r (H c) (F c) (O c) (fields c).length_is c.requires.2 (Y c) (fits c) g.1 _ head_is some }
-
-pub slice_bounds-put_body-count-2 : goal.slice_bounds-put_body-count-2
-slice_bounds-put_body-count-2 c = omega (arith, long c)
-
-pub slice_bounds-put_body-start-2 : goal.slice_bounds-put_body-start-2
-slice_bounds-put_body-start-2 c = omega (arith, long c)
-
-pub slice_bounds-put_body-count-3 : goal.slice_bounds-put_body-count-3
-slice_bounds-put_body-count-3 c = fits c
-
-pub slice_bounds-put_body-start-3 : goal.slice_bounds-put_body-start-3
-slice_bounds-put_body-start-3 c = fits c
+    let a = c.args in
+    let f = a.frame.now in
+    let o = a.out.now in
+    let ok = c.requires.2 in
+    let ys = c.put_body.new.out in
+    let said = said_is a.r f o a.header c.requires.0 ok a.n c.requires.1 _ _ c.nonce_of-nonce.ensures c.authenticated_data-data.ensures ys c.put_body.result c.put_body.ensures.value c.put_body.ensures.out_after in
+    let left = left_is a.r f o a.header c.requires.0 ok a.n c.requires.1 _ _ c.nonce_of-nonce.ensures c.authenticated_data-data.ensures ys c.put_body.result c.put_body.ensures.value c.put_body.ensures.out_after in
+    let is : true ≡ not (is_none (body_of a.r.key f)) = sym c.if-not-put_body.false ∙ said in
+    let some : is_none (body_of a.r.key f) ≡ false = not-true _ (sym is) in
+    let length_is = (fields_of f a.header c.requires.0).length_is in
+    let head_is = unprotect_is f a.header.length (omega (arith, length_is, header_range f)) (c.type_inv.frame 1).fits in
+    record {
+      value = is;
+      out_after = c.put_header.ensures ∙ was_opened_lem a.r a.header.length f o length_is ok ys (fits a.r f o a.header c.requires.0 ok) left _ head_is some;
+    }

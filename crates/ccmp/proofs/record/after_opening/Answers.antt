@@ -1,4 +1,4 @@
-use Rattle.std.proofs.Common.{leb, rules}
+use Rattle.std.proofs.Common.{leb}
 use Rattle.octets.proofs.Booleans.{both}
 use Rattle.rules.specs.Limits.{most_key_id}
 use Rattle.rules.specs.Windows.{is_size}

@@ -1,4 +1,3 @@
-use Rattle.std.proofs.Common.{rules}
 use Rattle.rules.specs.Records.{receiver_next}
 use Rattle.ccmp.proofs.record.after_refusal.Goals as goal
 

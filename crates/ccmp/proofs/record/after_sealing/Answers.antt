@@ -1,4 +1,4 @@
-use Rattle.std.proofs.Common.{refl, rules}
+use Rattle.std.proofs.Common.{refl}
 use Rattle.rules.specs.Records.{sender_next}
 use Rattle.ccmp.proofs.record.after_sealing.Goals as goal
 

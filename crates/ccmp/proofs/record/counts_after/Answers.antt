@@ -1,4 +1,3 @@
-use Rattle.std.proofs.Common.{rules}
 use Rattle.ccmp.proofs.record.counts_after.Goals as goal
 
 -- Count by count.

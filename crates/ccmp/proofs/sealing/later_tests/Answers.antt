@@ -1,83 +1,111 @@
-use Rattle.std.proofs.Common.{◌≡◌, ℕ, ◌+◌, ◌-◌, true, false, ltb, List, ◌++◌, length, sym, ap, ◌∙◌, arith, length-append, rules, le-ltb, lt-ltb, eq-eqb, ne_eqb}
-use borrow.Author.Tests.{not-true, not-false}
+use Rattle.std.proofs.Common.{◌≡◌, ℕ, ◌+◌, ◌-◌, ◌<◌, ◌≤◌, true, false, List, ◌++◌, length, sym, ap, ◌∙◌, arith, length-append, le-ltb, lt-ltb, eq-eqb, ne_eqb, ltb}
 use Rattle.octets.specs.Octets.{same}
 use Rattle.rules.specs.Limits.{most_number, least_body, most_body}
 use Rattle.rules.specs.Header.{header_length, address2}
 use Rattle.rules.specs.Mode.{added}
+use Rattle.rules.specs.Records.{sound_sender}
 use Rattle.rules.specs.Answers.{outside}
+use Rattle.rules.specs.Sealing.{seal_tests}
+use Rattle.rules.specs.declared.Header.{Header}
+use Rattle.rules.specs.declared.Sender.{Sender}
 use Rattle.rules.proofs.Fields.{header_range}
 use Rattle.rules.proofs.Passing.{inside}
+use Rattle.ccmp.specs.Verdict.{verdict}
+use Rattle.ccmp.specs.Parts.{Heads}
+use Rattle.ccmp.specs.declared.verdict.Verdict.{Verdict}
+use Rattle.ccmp.specs.declared.verdict.Verdict.TheVariants.{Refuse, Pass}
 use Rattle.ccmp.proofs.Verdicts.{Headed}
 use Rattle.ccmp.proofs.Parts.{whole_header, whole_address, head_exact, headed_whole}
 use Rattle.ccmp.proofs.sealing.later_tests.Goals as goal
 
 -- Test by test, after those that passed before.
--- the frame that the two parts make
-abbrev F : goal.Start → List ℕ
-F c = c.args.head.now ++ c.args.body.now
+module _ (s : Sender) (head body : List ℕ) (h : Header) (room : ℕ) (sound : sound_sender s ≡ true) (ok : Heads head h) where
+  -- the frame that the two parts make
+  abbrev F : List ℕ
+  F = head ++ body
 
-head : (c : goal.Start) → Headed 1 (F c) c.args.header
-head c = headed_whole c.args.head.now c.args.body.now c.args.header c.requires.1
+  abbrev Found : Verdict → Type 0
+  Found v = v ≡ verdict (seal_tests s F room) h
 
-exact : (c : goal.Start) → length c.args.head.now ≡ header_length c.args.head.now
-exact c = head_exact c.args.head.now c.args.body.now c.args.header c.requires.1
+  t : Headed 1 F h
+  t = headed_whole head body h ok
 
-size : (c : goal.Start) → length (F c) ≡ length c.args.head.now + length c.args.body.now
-size c = length-append c.args.head.now c.args.body.now
+  exact : length head ≡ header_length head
+  exact = head_exact head body h ok
 
--- the octets after the header
-body_is : (c : goal.After-outside) → let s = c in outside least_body most_body (length (F s) - header_length (F s)) ≡ c.outside.result
-body_is c =
-    let s = c in
-    let after : length (F s) - header_length (F s) ≡ length s.args.body.now
-    = omega (arith, size s, exact s, whole_header s.args.head.now s.args.body.now (exact s)) in
-    ap (outside least_body most_body) after ∙ sym c.outside.ensures
+  size : length F ≡ length head + length body
+  size = length-append head body
 
-within : (c : goal.Else-outside) → let s = c in outside least_body most_body (length (F s) - header_length (F s)) ≡ false
-within c = body_is c ∙ c.if-outside.false
+  -- the octets after the header
+  body_is : outside least_body most_body (length F - header_length F) ≡ outside least_body most_body (length body)
+  body_is =
+      let after : length F - header_length F ≡ length body = omega (arith, size, exact, whole_header head body exact) in
+      ap (outside least_body most_body) after
 
-room_holds : (c : goal.Else-room-head) → let s = c in ltb s.args.room (length (F s) + added) ≡ false
-room_holds c = let s = c in le-ltb s.args.room (length (F s) + added) (omega (arith, c.if-room-head.false, size s))
+  address_is : same (address2 F) s.address ≡ same (address2 head) s.address
+  address_is = ap (λ (a : List ℕ). same a s.address) (whole_address head body exact)
 
--- A2, as it is compared
-own_is : (c : goal.After-equal) → let s = c in same (address2 (F s)) s.args.s.address-1 ≡ c.equal.result
-unfolding address2
-own_is c =
-    let s = c in
-    ap (λ (a : List ℕ). same a s.args.s.address-1) (whole_address s.args.head.now s.args.body.now (exact s)) ∙ sym c.equal.ensures
+  found_5 : outside least_body most_body (length body) ≡ true → Found (Refuse 5)
+  found_5 e = rw (sound, t.short, t.kind, t.mark, t.cut, body_is ∙ e)
 
-own : (c : goal.Else-not-equal) → let s = c in same (address2 (F s)) s.args.s.address-1 ≡ true
-own c = own_is c ∙ not-false _ c.if-not-equal.false
+  module _ (w : outside least_body most_body (length body) ≡ false) where
+    fits : length head + length body + added < 65536
+    fits = omega (arith, inside least_body most_body (length F - header_length F) (body_is ∙ w), header_range F, size, t.whole)
+
+    found_6 : room < length head + length body + added → Found (Refuse 6)
+    found_6 l = rw (sound, t.short, t.kind, t.mark, t.cut, body_is ∙ w, lt-ltb room (length F + added) (omega (arith, size)))
+
+    module _ (enough : length head + length body + added ≤ room) where
+      holds : ltb room (length F + added) ≡ false
+      holds = le-ltb room (length F + added) (omega (arith, size))
+
+      found_7 : same (address2 head) s.address ≡ false → Found (Refuse 7)
+      found_7 e = rw (sound, t.short, t.kind, t.mark, t.cut, body_is ∙ w, holds, address_is ∙ e)
+
+      module _ (own : same (address2 head) s.address ≡ true) where
+        found_12 : s.last ≡ most_number → Found (Refuse 12)
+        found_12 e = rw (sound, t.short, t.kind, t.mark, t.cut, body_is ∙ w, holds, address_is ∙ own, eq-eqb s.last most_number e)
+
+        found_none : (s.last ≡ most_number → ⊥) → Found (Pass h)
+        found_none e = rw (sound, t.short, t.kind, t.mark, t.cut, body_is ∙ w, holds, address_is ∙ own, ne_eqb s.last most_number e)
 
 pub returns-then-outside : goal.returns-then-outside
 returns-then-outside c =
-    let h = head c in
-    rw (c.requires.0, h.short, h.kind, h.mark, h.cut, body_is c ∙ c.if-outside.true)
+    let a = c.args in
+    found_5 a.s a.head.now a.body.now a.header a.room c.requires.0 c.requires.1 (sym c.outside.ensures ∙ c.if-outside.true)
 
 pub overflow_add-head-2 : goal.overflow_add-head-2
 overflow_add-head-2 c =
-    let f = F c in
-    record { fits = omega (arith, inside least_body most_body (length f - header_length f) (within c), header_range f, size c, (head c).whole) }
+    let a = c.args in
+    record { fits = omega (arith, fits a.s a.head.now a.body.now a.header a.room c.requires.0 c.requires.1 (sym c.outside.ensures ∙ c.if-outside.false)) }
 
 pub returns-then-room-head : goal.returns-then-room-head
 returns-then-room-head c =
-    let h = head c in
-    rw (c.requires.0, h.short, h.kind, h.mark, h.cut, within c, lt-ltb c.args.room (length (F c) + added) (omega (arith, c.if-room-head.true, size c)))
+    let a = c.args in
+    found_6 a.s a.head.now a.body.now a.header a.room c.requires.0 c.requires.1 (sym c.outside.ensures ∙ c.if-outside.false) c.if-room-head.true
 
 pub slice_bounds-equal-end : goal.slice_bounds-equal-end
-slice_bounds-equal-end c = omega (arith, exact c, header_range c.args.head.now)
+slice_bounds-equal-end c =
+    let a = c.args in
+    omega (arith, head_exact a.head.now a.body.now a.header c.requires.1, header_range a.head.now)
 
 pub returns-then-not-equal : goal.returns-then-not-equal
+unfolding address2
 returns-then-not-equal c =
-    let h = head c in
-    rw (c.requires.0, h.short, h.kind, h.mark, h.cut, within c, room_holds c, own_is c ∙ not-true _ c.if-not-equal.true)
+    let a = c.args in
+    found_7 a.s a.head.now a.body.now a.header a.room c.requires.0 c.requires.1 (sym c.outside.ensures ∙ c.if-outside.false) c.if-room-head.false
+    (sym c.equal.ensures ∙ c.if-not-equal.true)
 
 pub returns-then-s-eq-MOST_NUMBER : goal.returns-then-s-eq-MOST_NUMBER
+unfolding address2
 returns-then-s-eq-MOST_NUMBER c =
-    let h = head c in
-    rw (c.requires.0, h.short, h.kind, h.mark, h.cut, within c, room_holds c, own c, eq-eqb c.args.s.last most_number c.if-s-eq-MOST_NUMBER.true)
+    let a = c.args in
+    found_12 a.s a.head.now a.body.now a.header a.room c.requires.0 c.requires.1 (sym c.outside.ensures ∙ c.if-outside.false) c.if-room-head.false
+    (sym c.equal.ensures ∙ c.if-not-equal.false) c.if-s-eq-MOST_NUMBER.true
 
 pub returns : goal.returns
+unfolding address2
 returns c =
-    let h = head c in
-    rw (c.requires.0, h.short, h.kind, h.mark, h.cut, within c, room_holds c, own c, ne_eqb c.args.s.last most_number c.if-s-eq-MOST_NUMBER.false)
+    let a = c.args in
+    found_none a.s a.head.now a.body.now a.header a.room c.requires.0 c.requires.1 (sym c.outside.ensures ∙ c.if-outside.false) c.if-room-head.false
+    (sym c.equal.ensures ∙ c.if-not-equal.false) c.if-s-eq-MOST_NUMBER.false

@@ -1,9 +1,12 @@
-use Rattle.std.proofs.Common.{◌≡◌, ℕ, ◌+◌, ◌-◌, ◌≤◌, List, ◌++◌, length, get_or, take, drop, set, sym, refl, ap, ◌∙◌, ap₂, arith, length-append, length-drop, length-take, take_all, rules}
+use Rattle.std.proofs.Common.{◌≡◌, ℕ, ◌+◌, ◌-◌, ◌≤◌, List, ◌++◌, length, get_or, take, drop, set, sym, refl, ap, ◌∙◌, ap₂, arith, length-append, length-drop, length-take, take_all}
 use lib.Bits.{bit_or}
 use Rattle.rules.specs.Limits.{ccmp_octets}
 use Rattle.rules.specs.Header.{header_length, authenticated, protect}
 use Rattle.rules.specs.Nonce.{nonce}
+use Rattle.rules.specs.Mode.{added}
+use Rattle.rules.specs.declared.Header.{Header}
 use Rattle.rules.proofs.Fields.{header_range, authenticated_size, data_range}
+use Rattle.ccmp.specs.Parts.{Heads}
 use Rattle.ccmp.proofs.Headers.{Fields, fields_of}
 use Rattle.ccmp.proofs.Verdicts.{Headed, headed}
 use Rattle.ccmp.proofs.Parts.{whole_header, whole_address, whole_priority, whole_data, front_whole, back_whole, head_exact}
@@ -12,115 +15,107 @@ use Rattle.ccmp.proofs.Frames.{protect_is, copied_all, ccmp_size, sealed_put}
 use Rattle.ccmp.proofs.sealing.put_sealed.Goals as goal
 
 -- The text, the CCMP header and the header stand one after the other, as the rules put them together.
--- the header, the body and the frame that they make
-abbrev F : goal.Start → List ℕ
-F c = c.args.head.now
+module _ (f b : List ℕ) (h : Header) (ok : Heads f h) where
+  headed_is : Headed 1 f h
+  headed_is = headed 1 f h ok.passed
 
-abbrev B : goal.Start → List ℕ
-B c = c.args.body.now
+  exact : length f ≡ header_length f
+  exact = head_exact f b h ok
 
-abbrev W : goal.Start → List ℕ
-W c = F c ++ B c
+  fields : Fields f h
+  fields = fields_of f h headed_is.is
 
-head : (c : goal.Start) → Headed 1 (F c) c.args.header
-head c = headed 1 (F c) c.args.header c.requires.0.passed
+  -- the header stands in the frame, and the CCMP header after it in the output
+  room : (o : List ℕ) → length (f ++ b) + added ≤ length o → h.length + ccmp_octets ≤ length o
+  room o enough = omega (arith, ok.exact, length-append f b, enough)
 
-exact : (c : goal.Start) → length (F c) ≡ header_length (F c)
-exact c = head_exact (F c) (B c) c.args.header c.requires.0
-
-fields : (c : goal.Start) → Fields (F c) c.args.header
-fields c = fields_of (F c) c.args.header (head c).is
-
--- the header stands in the frame, and the CCMP header after it in the output
-room : (c : goal.Start) → c.args.header.length + ccmp_octets ≤ length c.args.out-1.now
-room c = omega (arith, c.requires.0.exact, length-append (F c) (B c), c.requires.2)
-
-data_is : (c : goal.After-put_text-arg-1) → take (c.args.header.«data» - 0) c.authenticated_data-data.result ≡ authenticated (F c)
-data_is c =
-    let d = c in
-    let e : c.args.header.«data» - 0 ≡ c.args.header.«data» = omega arith in
-    ap (λ (k : ℕ). take k d.authenticated_data-data.result) e ∙ d.authenticated_data-data.ensures
+  data_is : (d : List ℕ) → take h.«data» d ≡ authenticated f → take (h.«data» - 0) d ≡ authenticated f
+  data_is d is =
+      let e : h.«data» - 0 ≡ h.«data» = omega arith in
+      ap (λ (k : ℕ). take k d) e ∙ is
 
 pub nonce_of-nonce-requires : goal.nonce_of-nonce-requires
-nonce_of-nonce-requires c = (head c).long
+nonce_of-nonce-requires c = let a = c.args in (headed_is a.head.now a.body.now a.header c.requires.0).long
 
 pub authenticated_data-data-requires : goal.authenticated_data-data-requires
-authenticated_data-data-requires c = let h = head c in (h.is, h.whole)
-
-pub overflow_add-text : goal.overflow_add-text
-overflow_add-text c = record { fits = omega (arith, (fields c).length_is, header_range (F c)) }
+authenticated_data-data-requires c = let a = c.args in let h = headed_is a.head.now a.body.now a.header c.requires.0 in (h.is, h.whole)
 
 pub slice_bounds-put_text-end : goal.slice_bounds-put_text-end
-slice_bounds-put_text-end c = omega (arith, (fields c).data_is, data_range (F c))
+slice_bounds-put_text-end c =
+    let a = c.args in
+    omega (arith, (fields a.head.now a.body.now a.header c.requires.0).data_is, data_range a.head.now)
 
 pub put_text-requires : goal.put_text-requires
 put_text-requires c =
-    let o = c.args.out-1.now in
-    let h = c.args.header.length in
-    let size = ap length (data_is c) ∙ authenticated_size (F c) (head c).whole in
-    let range = data_range (F c) in
-    let whole = length-append (F c) (B c) in (
-      (omega (arith, size, range), omega (arith, size, range), omega (arith, whole, exact c, whole_header (F c) (B c) (exact c), c.requires.1.most)),
-      omega (arith, length-take (length o - (h + ccmp_octets)) (drop (h + ccmp_octets) o), length-drop (h + ccmp_octets) o, whole, c.requires.0.exact, c.requires.2),
-    )
+    let a = c.args in
+    let f = a.head.now in
+    let b = a.body.now in
+    let o = a.out.now in
+    let h = a.header.length in
+    let ok = c.requires.0 in
+    let size = ap length (data_is f b a.header ok _ c.authenticated_data-data.ensures) ∙ authenticated_size f (headed_is f b a.header ok).whole in
+    let range = data_range f in
+    let whole = length-append f b in
+    record {
+      least_data_in_bounds = (
+        omega (arith, size, range),
+        omega (arith, size, range),
+        omega (arith, whole, exact f b a.header ok, whole_header f b (exact f b a.header ok), c.requires.1.most),
+      );
+      code_octets_in_bounds =
+          omega (arith, length-take (length o - (h + ccmp_octets)) (drop (h + ccmp_octets) o), length-drop (h + ccmp_octets) o, whole, ok.exact, c.requires.2);
+    }
 
 pub ccmp_header-ccmp-requires : goal.ccmp_header-ccmp-requires
 ccmp_header-ccmp-requires c = c.requires.1.id_fits
 
--- what the text leaves of the output, from its place on
-abbrev Y : goal.After-put_text → List ℕ
-Y c = c.put_text.new.out
-
-pub slice_bounds-copy-end-2 : goal.slice_bounds-copy-end-2
-slice_bounds-copy-end-2 c =
-    omega (arith, length_replaced c.args.out-1.now (Y c) (c.args.header.length + ccmp_octets) (room c))
-
 pub put_header-requires : goal.put_header-requires
 put_header-requires c =
-    let h = c.args.header.length in
-    let o = c.args.out-1.now in
-    let range = header_range (F c) in (
-      omega (arith, c.requires.0.exact, exact c, range),
-      omega (arith, c.requires.0.exact),
-      front_room (replaced o (Y c) (h + ccmp_octets) (room c)) _ h (omega (arith, length_replaced o (Y c) (h + ccmp_octets) (room c))),
+    let a = c.args in
+    let f = a.head.now in
+    let b = a.body.now in
+    let o = a.out.now in
+    let h = a.header.length in
+    let ok = c.requires.0 in
+    let fit = room f b a.header ok o c.requires.2 in
+    let ys = c.put_text.new.out in
+    let range = header_range f in (
+      omega (arith, ok.exact, exact f b a.header ok, range),
+      omega (arith, ok.exact),
+      front_room (replaced o ys (h + ccmp_octets) fit) _ h (omega (arith, length_replaced o ys (h + ccmp_octets) fit)),
     )
 
 pub returns : goal.returns
 returns c =
-    let f = F c in
-    let w = W c in
-    let o = c.args.out-1.now in
-    let h = c.args.header.length in
-    let n = c.args.n in
-    let is = (fields c).length_is in
-    let ex = exact c in
-    let ys = Y c in
+    let a = c.args in
+    let f = a.head.now in
+    let b = a.body.now in
+    let w = f ++ b in
+    let o = a.out.now in
+    let h = a.header.length in
+    let n = a.n in
+    let ok = c.requires.0 in
+    let fit = room f b a.header ok o c.requires.2 in
+    let is = (fields f b a.header ok).length_is in
+    let ex = exact f b a.header ok in
+    let ys = c.put_text.new.out in
     let zs = c.copy.new.to in
-    let o₁ = replaced o ys (h + ccmp_octets) (room c) in
+    let o₁ = replaced o ys (h + ccmp_octets) fit in
     let part = take (h + ccmp_octets - h) (drop h o₁) in
-    let eight : length c.ccmp_header-ccmp.result ≡ ccmp_octets = ap length c.ccmp_header-ccmp.ensures ∙ ccmp_size n c.args.s.key_id in
+    let eight : length c.ccmp_header-ccmp.result ≡ ccmp_octets = ap length c.ccmp_header-ccmp.ensures ∙ ccmp_size n a.s.key_id in
     let size : length part ≡ length c.ccmp_header-ccmp.result
-    = omega (arith, length-take (h + ccmp_octets - h) (drop h o₁), length-drop h o₁, length_replaced o ys (h + ccmp_octets) (room c)) in
+    = omega (arith, length-take (h + ccmp_octets - h) (drop h o₁), length-drop h o₁, length_replaced o ys (h + ccmp_octets) fit) in
     let out-head = set (take h f) 1 (bit_or (get_or f 1 0) 64) in
     let range = header_range f in
-    let front : take h f ≡ take h w = take_all h f (omega (arith, c.requires.0.exact)) ∙ sym (ap (λ (k : ℕ). take k w) is ∙ front_whole f (B c) ex) in
+    let front : take h f ≡ take h w = take_all h f (omega (arith, ok.exact)) ∙ sym (ap (λ (k : ℕ). take k w) is ∙ front_whole f b ex) in
     c.put_header.ensures
-    ∙ sealed_layout o ys zs out-head h (h + ccmp_octets) refl (room c)
-    ∙ sealed_put c.args.s n h w o (is ∙ sym (whole_header f (B c) ex)) c.requires.1.whole _ _ _ _ out-head zs ys
+    ∙ sealed_layout o ys zs out-head h (h + ccmp_octets) refl fit
+    ∙ sealed_put a.s n h w o (is ∙ sym (whole_header f b ex)) c.requires.1.whole _ _ _ _ out-head zs ys
     (c.nonce_of-nonce.ensures
-    ∙ ap₂ (λ (q : ℕ) (x : List ℕ). nonce q x n) ((fields c).priority_is ∙ sym (whole_priority f (B c) ex)) (sym (whole_address f (B c) ex)))
-    (data_is c ∙ sym (whole_data f (B c) ex))
-    (sym (ap (λ (k : ℕ). drop k w) is ∙ back_whole f (B c) ex))
+    ∙ ap₂ (λ (q : ℕ) (x : List ℕ). nonce q x n) ((fields f b a.header ok).priority_is ∙ sym (whole_priority f b ex)) (sym (whole_address f b ex)))
+    (data_is f b a.header ok _ c.authenticated_data-data.ensures ∙ sym (whole_data f b ex))
+    (sym (ap (λ (k : ℕ). drop k w) is ∙ back_whole f b ex))
     (take_all (length o - (h + ccmp_octets)) (drop (h + ccmp_octets) o) (omega (arith, length-drop (h + ccmp_octets) o)))
-    (protect_is f h (omega (arith, is, range)) (c.shared_slice_known-1.given 1).fits ∙ ap protect front)
+    (protect_is f h (omega (arith, is, range)) (c.type_inv.head 1).fits ∙ ap protect front)
     (c.copy.ensures.copied ∙ copied_all c.ccmp_header-ccmp.result part size ∙ c.ccmp_header-ccmp.ensures)
     c.put_text.ensures
-
-pub slice_bounds-put_text-count-2 : goal.slice_bounds-put_text-count-2
-slice_bounds-put_text-count-2 c = room c
-
-pub slice_bounds-put_text-start-2 : goal.slice_bounds-put_text-start-2
-slice_bounds-put_text-start-2 c = room c
-
-pub bounds-head-1 : goal.bounds-head-1
-bounds-head-1 c = let s = c in omega (arith, exact s, header_range (F s))

@@ -1,4 +1,3 @@
-use Rattle.std.proofs.Common.{rules}
 use Rattle.ccmp.proofs.Windows.{sound_empty, unsound_over, unsound_top, sound_rest}
 use Rattle.ccmp.proofs.window.sound_window.Goals as goal
 
@@ -10,12 +9,7 @@ pub returns-then-w-gt-MOST_NUMBER : goal.returns-then-w-gt-MOST_NUMBER
 returns-then-w-gt-MOST_NUMBER c = unsound_over c.args.w c.if-w-gt-MOST_NUMBER.true
 
 pub returns-then-w-ne1 : goal.returns-then-w-ne1
-returns-then-w-ne1 c =
-    let e₁ = else1 c in
-    unsound_top e₁.args.w e₁.if-w-eq0.left c.if-w-gt-MOST_NUMBER.left c.if-w-ne1.true
+returns-then-w-ne1 c = unsound_top c.args.w c.if-w-eq0.false c.if-w-gt-MOST_NUMBER.false c.if-w-ne1.true
 
 pub returns : goal.returns
-returns c =
-    let e₂ = else2 c in
-    let e₁ = else1 e₂ in
-    rw c.places.ensures (sound_rest e₁.args.w e₁.if-w-eq0.left e₂.if-w-gt-MOST_NUMBER.left c.if-w-ne1.false)
+returns c = rw c.places.ensures (sound_rest c.args.w c.if-w-eq0.false c.if-w-gt-MOST_NUMBER.false c.if-w-ne1.false)

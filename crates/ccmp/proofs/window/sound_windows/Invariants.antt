@@ -1,9 +1,11 @@
-use Rattle.std.proofs.Common.{◌≡◌, ℕ, ◌-◌, ◌<◌, ◌≤◌, Bool, true, List, get_or, sym, ◌∙◌, arith, rules, below_none, below_more}
-use borrow.Author.Tests.{not-true, not-false}
+use Rattle.std.proofs.Common.{◌≡◌, ℕ, ◌-◌, ◌<◌, ◌≤◌, Bool, true, List, get_or}
 use Rattle.rules.specs.Limits.{priorities}
 use Rattle.rules.specs.Windows.{sound_window}
-use Rattle.rules.proofs.Steps.{each_passes, one_fails}
 use Rattle.ccmp.proofs.window.sound_windows.Given as goal
+
+-- The loop passes the windows that are sound, and returns at the first that isn't.
+abbrev pub sound_at : ℕ → List ℕ → List ℕ → ℕ → Bool
+sound_at size replay seen p = sound_window (record { size = size; greatest = get_or replay p 0; seen = get_or seen p 0 })
 
 abbrev pub invariant-loop-p : goal.invariant-loop-p
 invariant-loop-p l = (l.p ≤ priorities) × ((k : ℕ) → k < l.p → sound_at l.size l.replay l.seen k ≡ true)

@@ -1,5 +1,4 @@
 use Rattle.rules.specs.Table.{fresh_table}
-use borrow.Author.Rules.{rules}
 use Rattle.table.proofs.adding.new_table.Goals as goal
 
 -- Each entry is a free one.

@@ -1,32 +1,36 @@
+-- Test by test, and then the entry is free.
 use mathlib.Core.Path.{◌≡◌, sym, ap₂, ◌∙◌}
 use mathlib.Core.Bool.{true}
 use borrow.Author.Tests.{lt-ltb, le-ltb, not-true, not-false}
 use lib.Dec.{ltb}
-use lib.ListN.{length, length-map}
+use lib.ListN.{length}
 use Rattle.rules.specs.Limits.{table_entries}
-use Rattle.rules.specs.Table.{put, sound_table, is_place, place_of}
+use Rattle.rules.specs.Table.{put, sound_table}
 use Rattle.table.proofs.Changes.{remove_refused, remove_done}
 use borrow.Author.Rules.{rules}
 use Rattle.table.proofs.adding.remove.Goals as goal
 
--- Test by test, and then the entry is free.
-size : (c : goal.Start) → length c.args.t1.entries ≡ table_entries
-size c = simp length-map at c.well-formed.0.1.1.0.1.0.1
-
-sound : (c : goal.Else-unsound) → sound_table c.args.t1 ≡ true
-sound c = not-false _ (sym c.unsound.ensures ∙ c.if-unsound.false)
-
-present : (c : goal.After-place_of-i) → let s = c in
-    is_place s.args.t1 (place_of s.args.t1 s.args.x) ≡ ltb c.place_of-i.result table_entries
-present c = ap₂ ltb (sym c.place_of-i.ensures) (size c)
-
 pub returns-then-unsound : goal.returns-then-unsound
-returns-then-unsound c = remove_refused _ _ 1 (rw (not-true (sound_table c.args.t1) (sym c.unsound.ensures ∙ c.if-unsound.true)))
+returns-then-unsound c =
+    let r = remove_refused c.args.t c.args.x 1 (rw (not-true (sound_table c.args.t) (sym c.unsound.ensures ∙ c.if-unsound.true))) in
+    record { answer_value = r.0; table_value = r.1 }
 
 pub returns-then-i-lt-ENTRIES : goal.returns-then-i-lt-ENTRIES
 returns-then-i-lt-ENTRIES c =
-    remove_done _ _ _ (rw (sound c, present c ∙ lt-ltb _ _ c.if-i-lt-ENTRIES.true))
-    (ap₂ (put c.args.t1) c.place_of-i.ensures c.free_entry.ensures)
+    let t = c.args.t in
+    let size : length t.entries ≡ table_entries = search rules in
+    let sound = not-false (sound_table t) (sym c.unsound.ensures ∙ c.if-unsound.false) in
+    let present = ap₂ ltb (sym c.place_of-i.ensures) size in
+    let r =
+        remove_done t c.args.x _ (rw (sound, present ∙ lt-ltb _ _ c.if-i-lt-ENTRIES.true))
+        (ap₂ (put t) c.place_of-i.ensures c.free_entry.ensures) in
+    record { answer_value = r.0; table_value = r.1 }
 
 pub returns-else-i-lt-ENTRIES : goal.returns-else-i-lt-ENTRIES
-returns-else-i-lt-ENTRIES c = remove_refused _ _ 15 (rw (sound c, present c ∙ le-ltb _ _ c.if-i-lt-ENTRIES.false))
+returns-else-i-lt-ENTRIES c =
+    let t = c.args.t in
+    let size : length t.entries ≡ table_entries = search rules in
+    let sound = not-false (sound_table t) (sym c.unsound.ensures ∙ c.if-unsound.false) in
+    let present = ap₂ ltb (sym c.place_of-i.ensures) size in
+    let r = remove_refused t c.args.x 15 (rw (sound, present ∙ le-ltb _ _ c.if-i-lt-ENTRIES.false)) in
+    record { answer_value = r.0; table_value = r.1 }

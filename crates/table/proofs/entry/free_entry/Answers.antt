@@ -1,4 +1,3 @@
-use borrow.Author.Rules.{rules}
 use Rattle.table.proofs.entry.free_entry.Goals as goal
 
 -- The receiver is the one of zeros.

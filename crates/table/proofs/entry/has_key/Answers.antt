@@ -1,6 +1,5 @@
 use borrow.Author.Tests.{not-true, not-false}
 use Rattle.rules.specs.Table.{has_key}
-use borrow.Author.Rules.{rules}
 use Rattle.table.proofs.entry.has_key.Goals as goal
 
 -- In use, and with the key.

@@ -1,7 +1,6 @@
 use mathlib.Core.Path.{ap, ◌∙◌}
 use borrow.Author.Tests.{not-true, not-false}
 use Rattle.rules.specs.Table.{same_triple, is_for}
-use borrow.Author.Rules.{rules}
 use Rattle.table.proofs.entry.is_for.Goals as goal
 
 -- In use, and of the triple.

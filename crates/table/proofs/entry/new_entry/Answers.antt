@@ -1,4 +1,3 @@
-use borrow.Author.Rules.{rules}
 use Rattle.table.proofs.entry.new_entry.Goals as goal
 
 -- The receiver is a new one.

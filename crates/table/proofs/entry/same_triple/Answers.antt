@@ -1,15 +1,13 @@
-use borrow.Author.Tests.{not-true, not-false}
-use borrow.Author.Rules.{rules}
 use Rattle.table.proofs.entry.same_triple.Goals as goal
 
 -- The addresses one by one, and the key ID.
 pub returns-then-not-same_address : goal.returns-then-not-same_address
-returns-then-not-same_address c = rw (← c.same_address.ensures, not-true c.same_address.result c.if-not-same_address.true)
+returns-then-not-same_address c = rw (← c.same_address.ensures, c.if-not-same_address.true)
 
 pub returns-then-not-same_address-2 : goal.returns-then-not-same_address-2
 returns-then-not-same_address-2 c =
-    rw (← c.same_address.ensures, not-false c.same_address.result c.if-not-same_address.false, ← c.same_address-2.ensures, not-true c.same_address-2.result c.if-not-same_address-2.true)
+    rw (← c.same_address.ensures, c.if-not-same_address.false, ← c.same_address-2.ensures, c.if-not-same_address-2.true)
 
 pub returns : goal.returns
 returns c =
-    rw (← c.same_address.ensures, not-false c.same_address.result c.if-not-same_address.false, ← c.same_address-2.ensures, not-false c.same_address-2.result c.if-not-same_address-2.false)
+    rw (← c.same_address.ensures, c.if-not-same_address.false, ← c.same_address-2.ensures, c.if-not-same_address-2.false)

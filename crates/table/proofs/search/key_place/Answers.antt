@@ -1,16 +1,14 @@
 use mathlib.Core.Path.{◌≡◌, sym, ◌∙◌}
-use Prim.Native.Nat.{◌-◌, ◌≤◌}
 use native.Mathlib.Nat.{zero-add}
 use native.Mathlib.Omega.{arith}
 use borrow.Author.Rules.{rules}
-use lib.ListN.{length, length-map}
 use Rattle.rules.specs.Limits.{table_entries}
-use Rattle.rules.specs.Table.{has_key, first_place}
-use Rattle.table.proofs.Loops.{place_from, here, further, nowhere}
+use Rattle.rules.specs.Table.{has_key}
+use Rattle.table.proofs.Loops.{here, further, nowhere}
 use Rattle.table.proofs.search.key_place.Goals as goal
 
 pub loop-i-init : goal.loop-i-init
-loop-i-init c = (search rules, simp length-map at c.well-formed.0.1.1.0.1.0.1, sym (zero-add _))
+loop-i-init c = (search rules, search rules, sym (zero-add _))
 
 pub returns-then-has_key : goal.returns-then-has_key
 returns-then-has_key c =

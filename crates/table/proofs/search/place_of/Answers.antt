@@ -1,16 +1,14 @@
 use mathlib.Core.Path.{◌≡◌, sym, ◌∙◌}
-use Prim.Native.Nat.{◌-◌, ◌≤◌}
 use native.Mathlib.Nat.{zero-add}
 use native.Mathlib.Omega.{arith}
 use borrow.Author.Rules.{rules}
-use lib.ListN.{length, length-map}
 use Rattle.rules.specs.Limits.{table_entries}
-use Rattle.rules.specs.Table.{is_for, first_place, place_of}
-use Rattle.table.proofs.Loops.{place_from, here, further, nowhere}
+use Rattle.rules.specs.Table.{is_for, place_of}
+use Rattle.table.proofs.Loops.{here, further, nowhere}
 use Rattle.table.proofs.search.place_of.Goals as goal
 
 pub loop-i-init : goal.loop-i-init
-loop-i-init c = (search rules, simp length-map at c.well-formed.0.1.1.0.1.0.1, sym (zero-add _))
+loop-i-init c = (search rules, search rules, sym (zero-add _))
 
 pub returns-then-is_for : goal.returns-then-is_for
 unfolding place_of

@@ -1,12 +1,9 @@
-use mathlib.Core.Path.{◌≡◌, sym, ◌∙◌}
+use mathlib.Core.Path.{◌≡◌}
 use Prim.Native.Nat.{◌-◌, ◌≤◌}
-use native.Mathlib.Nat.{zero-add}
-use native.Mathlib.Omega.{arith}
-use borrow.Author.Rules.{rules}
-use lib.ListN.{length, length-map}
+use lib.ListN.{length}
 use Rattle.rules.specs.Limits.{table_entries}
-use Rattle.rules.specs.Table.{is_for, first_place, place_of}
-use Rattle.table.proofs.Loops.{place_from, here, further, nowhere}
+use Rattle.rules.specs.Table.{is_for, first_place}
+use Rattle.table.proofs.Loops.{place_from}
 use Rattle.table.proofs.search.place_of.Given as goal
 
 -- The first entry of the triple, or none.

@@ -1,6 +1,5 @@
 use mathlib.Core.Path.{sym}
 use Rattle.table.proofs.Words.{part_read}
-use borrow.Author.Rules.{rules}
 use Rattle.table.proofs.serving.address_at.Goals as goal
 
 -- The six octets that are read are the address.

@@ -1,34 +1,33 @@
 use mathlib.Core.Path.{◌≡◌, refl, sym, ap, ◌∙◌}
 use mathlib.Core.Bool.{true, not}
-use Prim.Native.Nat.{◌+◌, ◌-◌, ◌≤◌}
+use mathlib.Core.List.{List}
+use Prim.Native.Nat.{ℕ, ◌+◌, ◌-◌, ◌≤◌}
 use native.Mathlib.Omega.{arith}
 use borrow.Author.Rules.{rules}
-use borrow.Author.Tests.{not-true, not-false}
-use lib.ListN.{length, drop, length-map}
+use lib.ListN.{length, drop}
 use Rattle.rules.specs.Limits.{table_entries}
 use Rattle.rules.specs.Table.{clash, apart_from, apart, sound_entry, all_sound, sound_table}
+use Rattle.rules.specs.declared.Entry.{Entry}
 use Rattle.table.proofs.Loops.{fails, goes_on, all_pass}
 use Rattle.table.proofs.sound.sound_table.Goals as goal
 
+-- past the last entry, each by itself is sound
+each : (es : List Entry) (i : ℕ) → all_sound es ≡ all_sound (drop i es) → length es ≡ table_entries → table_entries ≤ i → all_sound es ≡ true
+each es i e size l = e ∙ all_pass all_sound (λ e es. sound_entry e) refl (λ e es. refl) es i (omega arith)
+
 pub loop-i-init : goal.loop-i-init
-loop-i-init c = (search rules, simp length-map at c.well-formed.0.1.1.0.1.0.1, refl)
+loop-i-init c = (search rules, search rules, refl)
 
 pub returns-then-not-sound_entry : goal.returns-then-not-sound_entry
 unfolding sound_table
 returns-then-not-sound_entry c =
-    let no = sym c.sound_entry.ensures ∙ not-true _ c.if-not-sound_entry.true in
+    let no = sym c.sound_entry.ensures ∙ c.if-not-sound_entry.true in
     rw (c.loop-i.invariant.2 ∙ fails all_sound (λ e es. sound_entry e) refl (λ e es. refl) _ c.loop-i.i _ (search rules) no)
 
 pub loop-i-preserved : goal.loop-i-preserved
 loop-i-preserved c =
-    let yes = sym c.sound_entry.ensures ∙ not-false _ c.if-not-sound_entry.false in
+    let yes = sym c.sound_entry.ensures ∙ c.if-not-sound_entry.false in
     (search rules, c.loop-i.invariant.1, c.loop-i.invariant.2 ∙ goes_on all_sound (λ e es. sound_entry e) refl (λ e es. refl) _ c.loop-i.i _ (search rules) yes)
-
--- each entry by itself is sound
-each : (c : goal.After-loop-i) → all_sound c.args.t1.entries ≡ true
-each c =
-    let l = c in
-    l.loop-i.invariant.2 ∙ all_pass all_sound (λ e es. sound_entry e) refl (λ e es. refl) _ l.loop-i.i (omega (arith, l.loop-i.invariant.1, c.loop-i-test.false))
 
 pub loop-j-init : goal.loop-j-init
 loop-j-init c = (search rules, refl)
@@ -36,9 +35,9 @@ loop-j-init c = (search rules, refl)
 pub returns-then-clashes : goal.returns-then-clashes
 unfolding sound_table
 returns-then-clashes c =
-    let es = c.args.t1.entries in
+    let es = c.args.t.entries in
     let none = fails (apart_from _) (λ b es. not (clash _ b)) refl (λ b es. refl) es c.loop-j.j _ (search rules) (ap not (sym c.clashes.ensures ∙ c.if-clashes.true)) in
-    rw (each c, c.loop-k.invariant.1 ∙ fails apart apart_from refl (λ a es. refl) _ c.loop-k.k _ (search rules) (c.loop-j.invariant.1 ∙ none))
+    rw (each _ _ c.loop-i.invariant.2 c.loop-i.invariant.1 c.loop-i-test.false, c.loop-k.invariant.1 ∙ fails apart apart_from refl (λ a es. refl) _ c.loop-k.k _ (search rules) (c.loop-j.invariant.1 ∙ none))
 
 pub loop-j-preserved : goal.loop-j-preserved
 loop-j-preserved c =
@@ -51,7 +50,7 @@ loop-j-preserved c =
 pub loop-k-preserved : goal.loop-k-preserved
 loop-k-preserved c =
     let size = c.loop-i.invariant.1 in
-    let es = c.args.t1.entries in
+    let es = c.args.t.entries in
     let all = all_pass (apart_from _) (λ b es. not (clash _ b)) refl (λ b es. refl) es c.loop-j.j (omega (arith, size, c.loop-j-test.false)) in
     (search rules, c.loop-k.invariant.1 ∙ goes_on apart apart_from refl (λ a es. refl) _ c.loop-k.k _ (search rules) (c.loop-j.invariant.1 ∙ all))
 
@@ -59,7 +58,7 @@ pub returns : goal.returns
 unfolding sound_table
 returns c =
     let size = c.loop-i.invariant.1 in
-    rw (each c, c.loop-k.invariant.1 ∙ all_pass apart apart_from refl (λ a es. refl) _ c.loop-k.k (omega (arith, size, c.loop-k-test.false)))
+    rw (each _ _ c.loop-i.invariant.2 c.loop-i.invariant.1 c.loop-i-test.false, c.loop-k.invariant.1 ∙ all_pass apart apart_from refl (λ a es. refl) _ c.loop-k.k (omega (arith, size, c.loop-k-test.false)))
 
 pub loop-k-init : goal.loop-k-init
 loop-k-init c = (search rules, refl)

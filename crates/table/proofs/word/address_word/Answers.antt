@@ -11,7 +11,7 @@ use Rattle.table.proofs.word.address_word.Goals as goal
 -- The six octets that are read are all.
 pub returns : goal.returns
 returns c =
-    let a = c.args.t1 in
+    let a = c.args.a in
     let size : length a ≡ address_octets = search rules in
     let is = each_all a address_octets size in (
       omega (

@@ -10,8 +10,8 @@ use Rattle.table.proofs.word.key_word.Goals as goal
 -- The eight octets that are read are those of the word.
 pub returns : goal.returns
 returns c =
-    let size : length c.args.t1 ≡ key_octets = search rules in
-    let is = part_read c.args.t1 c.args.i 7 (omega (arith, c.requires)) in (
+    let size : length c.args.key ≡ key_octets = search rules in
+    let is = part_read c.args.key c.args.i 7 (omega (arith, c.requires)) in (
       omega (
         arith,
         ap word is,
