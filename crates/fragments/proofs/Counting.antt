@@ -26,8 +26,8 @@ module _ (size : ℕ) (f : List ℕ) (h : ℕ) (cut : Cut size f h) where
       let x : ℕ = length f - h + size - 1 in
       let q : ℕ = x / size in
       let whole : q * size + x % size ≡ x = div-add-mod' x size in
-      let rest : x % size < size = mod-lt x (omega (arith, cut.fit.least_size)) in
-      sym (fragments_count size f ∙ count_is size f cut.fit.few q (omega (arith, message_is)) (omega (arith, message_is, cut.fit.least_size)))
+      let rest : x % size < size = mod-lt x (omega (arith, cut.fit.least_size_lem)) in
+      sym (fragments_count size f ∙ count_is size f cut.fit.few q (omega (arith, message_is)) (omega (arith, message_is, cut.fit.least_size_lem)))
 
   pub most_count : length (fragments size f) ≤ most_fragments
   most_count = omega (arith, fragments_count size f, pieces_count size f)

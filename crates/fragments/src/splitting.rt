@@ -27,6 +27,7 @@ pub(crate) const MOST_SIZE: usize = 2296;
 const MOST_HEADER: usize = 36;
 
 // Test 13, of a size and a message of n octets.
+#[tactic(auto, unfolding(rules::specs::Splitting::unfit))]
 fn unfit(size: usize, n: usize) -> bool
     ensures { result ≡ unfit size n }
 {
@@ -43,6 +44,7 @@ fn unfit(size: usize, n: usize) -> bool
 }
 
 // How many fragments a frame makes whose header ends at h.
+#[tactic(auto, using(crate::proofs::Counting::divided))]
 fn count(size: usize, frame: &[u8], h: usize) -> usize
     requires { Cut size frame.now h }
     ensures { result ≡ length (fragments size frame.now) }

@@ -1,4 +1,3 @@
-use borrow.Author.Rules.{rules}
 use Rattle.fragments.proofs.Fragments.{fragment_octets}
 use Rattle.fragments.proofs.fragment.fragment_of.Goals as goal
 

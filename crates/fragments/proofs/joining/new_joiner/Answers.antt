@@ -1,4 +1,3 @@
-use borrow.Author.Rules.{rules}
 use Rattle.rules.specs.Joining.{fresh_joiner}
 use Rattle.fragments.proofs.joining.new_joiner.Goals as goal
 

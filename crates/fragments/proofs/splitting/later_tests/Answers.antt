@@ -3,17 +3,21 @@ use mathlib.Core.Bool.{Bool, true, false}
 use mathlib.Core.List.{List}
 use Prim.Native.Nat.{ℕ, ◌-◌, ◌≤◌}
 use native.Mathlib.Omega.{arith}
-use borrow.Author.Tests.{leb-true, lt-ltb, le-ltb, not-true, not-false}
-use borrow.Author.Rules.{rules}
+use borrow.Author.Tests.{leb-true, lt-ltb, le-ltb}
 use lib.Dec.{leb, ltb}
 use lib.ListN.{length}
 use Rattle.octets.specs.Octets.{same}
 use Rattle.octets.proofs.Booleans.{both}
 use Rattle.rules.specs.Limits.{most_number, most_key_id}
-use Rattle.rules.specs.Header.{address2}
+use Rattle.rules.specs.Header.{header_of, address2}
 use Rattle.rules.specs.Records.{sound_sender}
-use Rattle.rules.specs.Splitting.{message, fragments, sealed_length, unfit}
+use Rattle.rules.specs.Tests.{header_tests}
+use Rattle.rules.specs.Splitting.{message, unfit}
+use Rattle.rules.specs.declared.Header.{Header}
+use Rattle.rules.specs.declared.Sender.{Sender}
 use Rattle.rules.proofs.Splits.{fit}
+use Rattle.ccmp.specs.Verdict.{verdict}
+use Rattle.ccmp.specs.declared.verdict.Verdict.TheVariants.{Pass}
 use Rattle.ccmp.proofs.Headers.{Fields, fields_of}
 use Rattle.ccmp.proofs.Verdicts.{Headed, headed}
 use Rattle.fragments.specs.Cutting.{Cut}
@@ -21,92 +25,121 @@ use Rattle.fragments.proofs.Counting.{message_size}
 use Rattle.fragments.proofs.splitting.later_tests.Goals as goal
 
 -- Test by test, after those that passed before.
-abbrev F : goal.Start → List ℕ
-F c = c.args.frame.now
+module _ (f : List ℕ) (h : Header) (e : Pass h ≡ verdict (header_tests 1 f) (header_of f)) where
+  head : Headed 1 f h
+  head = headed 1 f h e
 
-head : (c : goal.Start) → Headed 1 (F c) c.args.header
-head c = headed 1 (F c) c.args.header c.requires.1
+  fields : Fields f h
+  fields = fields_of f h head.is
 
-fields : (c : goal.Start) → Fields (F c) c.args.header
-fields c = fields_of (F c) c.args.header (head c).is
+  ends : h.length ≤ length f
+  ends = omega (arith, fields.length_is, head.whole)
 
--- the octets of the message
-message_is : (c : goal.Start) → length (F c) - c.args.header.length ≡ length (message (F c))
-message_is c = omega (arith, (fields c).length_is, message_size (F c))
+  -- the octets of the message
+  message_is : length f - h.length ≡ length (message f)
+  message_is = omega (arith, fields.length_is, message_size f)
 
-unfit-is : (c : goal.After-unfit) → let s = c in unfit s.args.size (length (message (F s))) ≡ c.unfit.result
-unfit-is c = let s = c in ap (unfit s.args.size) (sym (message_is s)) ∙ sym c.unfit.ensures
+  unfit_is : (size : ℕ) (r b : Bool) → r ≡ unfit size (length f - h.length) → r ≡ b → unfit size (length (message f)) ≡ b
+  unfit_is size r b er eb = ap (unfit size) (sym message_is) ∙ sym er ∙ eb
 
-fits : (c : goal.Else-unfit) → let s = c in unfit s.args.size (length (message (F s))) ≡ false
-fits c = unfit-is c ∙ c.if-unfit.false
+  cut : (size : ℕ) (r : Bool) → r ≡ unfit size (length f - h.length) → r ≡ false → Cut size f h.length
+  cut size r er eb = record { header = fields.length_is; whole = head.whole; fit = fit size (length (message f)) (unfit_is size r false er eb) }
 
-cut : (c : goal.Else-unfit) → let s = c in Cut s.args.size (F s) s.args.header.length
-cut c =
-    let s = c in
-    record { header = (fields s).length_is; whole = (head s).whole; fit = fit s.args.size (length (message (F s))) (fits c) }
-
--- the room
-room_is : (c : goal.After-sealed_length) (b : Bool) → let s = c in ltb s.args.room c.sealed_length.result ≡ b
-    → ltb s.args.room (sealed_length (fragments s.args.size (F s))) ≡ b
-room_is c b e = let s = c in ap (ltb s.args.room) (sym c.sealed_length.ensures) ∙ e
-
-room_holds : (c : goal.Else-room-sealed_length) → let s = c in ltb s.args.room (sealed_length (fragments s.args.size (F s))) ≡ false
-room_holds c = room_is c false (le-ltb _ _ c.if-room-sealed_length.false)
+-- a comparison with what a call gives
+under : (x k n : ℕ) (b : Bool) → k ≡ n → ltb x k ≡ b → ltb x n ≡ b
+under x k n b e l = ap (ltb x) (sym e) ∙ l
 
 -- A2, as it is compared
-own_is : (c : goal.After-equal) → let s = c in same (address2 (F s)) s.args.s.address-1 ≡ c.equal.result
-unfolding address2
-own_is c = sym c.equal.ensures
+own_is : (f a : List ℕ) (r b : Bool) → r ≡ same (address2 f) a → r ≡ b → same (address2 f) a ≡ b
+own_is f a r b er eb = sym er ∙ eb
 
-own : (c : goal.Else-not-equal) → let s = c in same (address2 (F s)) s.args.s.address-1 ≡ true
-own c = own_is c ∙ not-false _ c.if-not-equal.false
+-- the numbers left
+fresh : (s : Sender) → sound_sender s ≡ true → s.last ≤ most_number
+unfolding sound_sender
+fresh s e = leb-true _ _ (both (leb s.key_id most_key_id) (leb s.last most_number) e).1
 
 pub overflow_sub-frame : goal.overflow_sub-frame
-overflow_sub-frame c = omega (arith, (fields c).length_is, (head c).whole)
+overflow_sub-frame c = ends c.args.frame.now c.args.header c.requires.1
 
 pub returns-then-unfit : goal.returns-then-unfit
 returns-then-unfit c =
-    let h = head c in
-    rw (c.requires.0, h.short, h.kind, h.mark, h.cut, unfit-is c ∙ c.if-unfit.true)
+    let a = c.args in
+    let h = head a.frame.now a.header c.requires.1 in
+    rw (c.requires.0, h.short, h.kind, h.mark, h.cut, unfit_is a.frame.now a.header c.requires.1 a.size _ _ c.unfit.ensures c.if-unfit.true)
+
+pub sealed_length-requires : goal.sealed_length-requires
+sealed_length-requires c = let a = c.args in cut a.frame.now a.header c.requires.1 a.size _ c.unfit.ensures c.if-unfit.false
 
 pub returns-then-room-sealed_length : goal.returns-then-room-sealed_length
 returns-then-room-sealed_length c =
-    let h = head c in
-    rw (c.requires.0, h.short, h.kind, h.mark, h.cut, fits c, room_is c true (lt-ltb _ _ c.if-room-sealed_length.true))
+    let a = c.args in
+    let h = head a.frame.now a.header c.requires.1 in
+    rw (
+      c.requires.0,
+      h.short,
+      h.kind,
+      h.mark,
+      h.cut,
+      unfit_is a.frame.now a.header c.requires.1 a.size _ _ c.unfit.ensures c.if-unfit.false,
+      under a.room _ _ _ c.sealed_length.ensures (lt-ltb _ _ c.if-room-sealed_length.true),
+    )
 
 pub slice_bounds-equal-end : goal.slice_bounds-equal-end
-slice_bounds-equal-end c = omega (arith, (head c).long)
+slice_bounds-equal-end c = omega (arith, (head c.args.frame.now c.args.header c.requires.1).long)
 
 pub returns-then-not-equal : goal.returns-then-not-equal
+unfolding address2
 returns-then-not-equal c =
-    let h = head c in
-    rw (c.requires.0, h.short, h.kind, h.mark, h.cut, fits c, room_holds c, own_is c ∙ not-true _ c.if-not-equal.true)
-
--- the numbers left
-fresh : (c : goal.Start) → c.args.s.last ≤ most_number
-unfolding sound_sender
-fresh c = leb-true _ _ (both (leb c.args.s.key_id most_key_id) (leb c.args.s.last most_number) c.requires.0).1
-
-left_is : (c : goal.After-count) (b : Bool)
-    → let s = c in ltb (most_number - s.args.s.last) c.count.result ≡ b
-    → ltb (most_number - s.args.s.last) (length (fragments s.args.size (F s))) ≡ b
-left_is c b e = let s = c in ap (ltb (most_number - s.args.s.last)) (sym c.count.ensures) ∙ e
-
-pub returns-then-s-count : goal.returns-then-s-count
-returns-then-s-count c =
-    let h = head c in
-    rw (c.requires.0, h.short, h.kind, h.mark, h.cut, fits c, room_holds c, own c, left_is c true (lt-ltb _ _ c.if-s-count.true))
-
-pub returns : goal.returns
-returns c =
-    let h = head c in
-    rw (c.requires.0, h.short, h.kind, h.mark, h.cut, fits c, room_holds c, own c, left_is c false (le-ltb _ _ c.if-s-count.false), h.is)
-
-pub sealed_length-requires : goal.sealed_length-requires
-sealed_length-requires c = cut c
+    let a = c.args in
+    let h = head a.frame.now a.header c.requires.1 in
+    rw (
+      c.requires.0,
+      h.short,
+      h.kind,
+      h.mark,
+      h.cut,
+      unfit_is a.frame.now a.header c.requires.1 a.size _ _ c.unfit.ensures c.if-unfit.false,
+      under a.room _ _ _ c.sealed_length.ensures (le-ltb _ _ c.if-room-sealed_length.false),
+      own_is a.frame.now a.s.address _ _ c.equal.ensures c.if-not-equal.true,
+    )
 
 pub overflow_sub-s : goal.overflow_sub-s
-overflow_sub-s c = fresh c
+overflow_sub-s c = fresh c.args.s c.requires.0
 
 pub count-requires : goal.count-requires
-count-requires c = cut c
+count-requires c = let a = c.args in cut a.frame.now a.header c.requires.1 a.size _ c.unfit.ensures c.if-unfit.false
+
+pub returns-then-s-count : goal.returns-then-s-count
+unfolding address2
+returns-then-s-count c =
+    let a = c.args in
+    let h = head a.frame.now a.header c.requires.1 in
+    rw (
+      c.requires.0,
+      h.short,
+      h.kind,
+      h.mark,
+      h.cut,
+      unfit_is a.frame.now a.header c.requires.1 a.size _ _ c.unfit.ensures c.if-unfit.false,
+      under a.room _ _ _ c.sealed_length.ensures (le-ltb _ _ c.if-room-sealed_length.false),
+      own_is a.frame.now a.s.address _ _ c.equal.ensures c.if-not-equal.false,
+      under (most_number - a.s.last) _ _ _ c.count.ensures (lt-ltb _ _ c.if-s-count.true),
+    )
+
+pub returns : goal.returns
+unfolding address2
+returns c =
+    let a = c.args in
+    let h = head a.frame.now a.header c.requires.1 in
+    rw (
+      c.requires.0,
+      h.short,
+      h.kind,
+      h.mark,
+      h.cut,
+      unfit_is a.frame.now a.header c.requires.1 a.size _ _ c.unfit.ensures c.if-unfit.false,
+      under a.room _ _ _ c.sealed_length.ensures (le-ltb _ _ c.if-room-sealed_length.false),
+      own_is a.frame.now a.s.address _ _ c.equal.ensures c.if-not-equal.false,
+      under (most_number - a.s.last) _ _ _ c.count.ensures (le-ltb _ _ c.if-s-count.false),
+      h.is,
+    )

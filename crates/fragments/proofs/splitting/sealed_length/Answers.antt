@@ -1,16 +1,16 @@
 use mathlib.Core.Path.{ap, ◌∙◌}
 use Prim.Native.Nat.{ℕ, ◌+◌, ◌-◌, ◌*◌, ◌≤◌}
 use native.Mathlib.Omega.{arith}
-use borrow.Author.Rules.{rules}
 use lib.ListN.{length}
 use Rattle.rules.specs.Limits.{most_header, most_fragments}
 use Rattle.rules.specs.Mode.{added}
 use Rattle.fragments.proofs.Counting.{message_is, most_added, octets_are}
 use Rattle.fragments.proofs.splitting.sealed_length.Goals as goal
+use Rattle.fragments.proofs.splitting.sealed_length.Goals.{After-count}
 
 -- The message, and for each fragment a header and what sealing adds.
 -- what the fragments have beside the message
-beside : (c : goal.After-count) → let a = c.args in c.count.result * (a.h + added) ≤ most_fragments * (most_header + added)
+beside : (c : After-count) → let a = c.args in c.count.result * (a.h + added) ≤ most_fragments * (most_header + added)
 beside c =
     let s = c in
     let a = s.args in

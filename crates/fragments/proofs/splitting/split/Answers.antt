@@ -1,61 +1,61 @@
-use mathlib.Core.Path.{◌≡◌, sym, ◌∙◌}
+use mathlib.Core.Path.{◌≡◌}
 use mathlib.Core.Bool.{true}
 use mathlib.Core.List.{List}
 use Prim.Native.Nat.{ℕ, ◌≤◌}
 use native.Mathlib.Omega.{arith}
 use lib.ListN.{length}
-use borrow.Author.Rules.{rules}
 use Rattle.rules.specs.Header.{header_of}
 use Rattle.rules.specs.Answers.{none_applies}
 use Rattle.rules.specs.Splitting.{fragments, sealed_length, split_tests, Splittable}
+use Rattle.rules.specs.declared.Header.{Header}
 use Rattle.rules.specs.declared.Sender.{Sender}
 use Rattle.rules.proofs.Splits.{split_passes}
+use Rattle.ccmp.specs.Verdict.{verdict}
+use Rattle.ccmp.specs.declared.verdict.Verdict.TheVariants.{Pass}
 use Rattle.ccmp.proofs.Headers.{Fields, fields_of}
 use Rattle.ccmp.proofs.Verdicts.{passes}
 use Rattle.fragments.proofs.Splits.{split_refused, split_gives}
 use Rattle.fragments.proofs.splitting.split.Goals as goal
 
-abbrev S : goal.After-split_tests → Sender
-S c = c.args.s
+-- A refusal is the answer; where no test applies, the fragments that are written are the rules'.
+module _ (s : Sender) (size : ℕ) (f : List ℕ) (room : ℕ) (h : Header) (e : Pass h ≡ verdict (split_tests s size f room) (header_of f)) where
+  passed : (h ≡ header_of f) × (none_applies (split_tests s size f room) ≡ true)
+  passed = passes (split_tests s size f room) (header_of f) h e
 
-abbrev N : goal.After-split_tests → ℕ
-N c = c.args.size
+  splittable : Splittable s size f × (sealed_length (fragments size f) ≤ room)
+  splittable = split_passes s size f room passed.1
 
-abbrev F : goal.After-split_tests → List ℕ
-F c = c.args.frame.now
-
-abbrev O : goal.After-split_tests → List ℕ
-O c = c.args.out-1.now
-
-passed : (c : goal.In-Pass-2) → let t = c in (c.header-1.given.0.0 ≡ header_of (F t)) × (none_applies (split_tests (S t) (N t) (F t) (length (O t))) ≡ true)
-passed c =
-    let t = c in
-    passes (split_tests (S t) (N t) (F t) (length (O t))) (header_of (F t)) _ (sym c.header-1.given.1 ∙ t.split_tests.ensures)
-
-splittable : (c : goal.In-Pass-2) → let t = c in Splittable (S t) (N t) (F t) × (sealed_length (fragments (N t) (F t)) ≤ length (O t))
-splittable c = let t = c in split_passes (S t) (N t) (F t) (length (O t)) (passed c).1
-
-fields : (c : goal.In-Pass-2) → Fields (F c) c.header-1.given.0.0
-fields c = fields_of (F c) _ (passed c).0
+  fields : Fields f h
+  fields = fields_of f h passed.0
 
 pub put_fragments-next-requires : goal.put_fragments-next-requires
 put_fragments-next-requires c =
-    let q = splittable c in
-    ((fields c).length_is, q.0, q.1)
+    let a = c.args in
+    let q = splittable a.s a.size a.frame.now (length a.out.now) c.in-Pass.header c.in-Pass.ensures in
+    ((fields a.s a.size a.frame.now (length a.out.now) c.in-Pass.header c.in-Pass.ensures).length_is, q.0, q.1)
 
 pub overflow_add-result : goal.overflow_add-result
-overflow_add-result c = record { fits = omega (arith, (splittable c).0.unspent) }
+overflow_add-result c =
+    let a = c.args in
+    record { fits = omega (arith, (splittable a.s a.size a.frame.now (length a.out.now) c.in-Pass.header c.in-Pass.ensures).0.unspent) }
 
 pub sealed_length-requires : goal.sealed_length-requires
 sealed_length-requires c =
-    let q = (splittable c).0 in
-    record { header = (fields c).length_is; whole = q.whole; fit = q.fit }
+    let a = c.args in
+    let q = (splittable a.s a.size a.frame.now (length a.out.now) c.in-Pass.header c.in-Pass.ensures).0 in
+    record { header = (fields a.s a.size a.frame.now (length a.out.now) c.in-Pass.header c.in-Pass.ensures).length_is; whole = q.whole; fit = q.fit }
 
 pub returns-in-Refuse : goal.returns-in-Refuse
 returns-in-Refuse c =
-    split_refused (S c) (N c) (F c) (O c) (header_of (F c)) _ (sym c.refusal-1.given.1 ∙ c.split_tests.ensures)
+    let a = c.args in
+    let g = split_refused a.s a.size a.frame.now a.out.now (header_of a.frame.now) _ c.in-Refuse.ensures in
+    record { answer_value = g.0; sender_value = g.1.0; out_after = g.1.1 }
 
 pub returns-in-Pass : goal.returns-in-Pass
 returns-in-Pass c =
+    let a = c.args in
     let put = c.put_fragments-next in
-    split_gives (S c) (N c) (F c) (O c) _ _ _ _ (passed c).1 (fields c).priority_is c.sealed_length.ensures put.ensures.0 put.ensures.1
+    let g = split_gives a.s a.size a.frame.now a.out.now put.result c.in-Pass.header.priority c.sealed_length.result put.new.out
+    (passed a.s a.size a.frame.now (length a.out.now) c.in-Pass.header c.in-Pass.ensures).1
+    (fields a.s a.size a.frame.now (length a.out.now) c.in-Pass.header c.in-Pass.ensures).priority_is c.sealed_length.ensures put.ensures.value put.ensures.out_after in
+    record { answer_value = g.0; sender_value = g.1.0; out_after = g.1.1 }
