@@ -1,6 +1,5 @@
 -- Test by test, and then the entry is new.
 use mathlib.Core.Path.{◌≡◌, sym, ap₂, ◌∙◌}
-use mathlib.Core.Bool.{true, false}
 use borrow.Author.Tests.{lt-ltb, le-ltb, not-true, not-false}
 use lib.Dec.{ltb}
 use lib.ListN.{length}
@@ -40,8 +39,8 @@ returns-then-i-lt-ENTRIES c =
     let new = ap₂ ltb (sym c.key_place.ensures) size ∙ le-ltb _ _ c.if-key_place-lt-ENTRIES.false in
     let placed = ap₂ ltb (sym c.add_place-i.ensures) size in
     let r =
-        add_done t c.args.x _ (rw (sound, fits, new, placed ∙ lt-ltb _ _ c.if-i-lt-ENTRIES.true))
-        (ap₂ (put t) c.add_place-i.ensures c.new_entry.ensures) in
+    add_done t c.args.x _ (rw (sound, fits, new, placed ∙ lt-ltb _ _ c.if-i-lt-ENTRIES.true))
+    (ap₂ (put t) c.add_place-i.ensures c.new_entry.ensures) in
     record { answer_value = r.0; table_value = r.1 }
 
 pub returns-else-i-lt-ENTRIES : goal.returns-else-i-lt-ENTRIES

@@ -1,6 +1,5 @@
 -- Test by test, and then the entry is free.
 use mathlib.Core.Path.{◌≡◌, sym, ap₂, ◌∙◌}
-use mathlib.Core.Bool.{true}
 use borrow.Author.Tests.{lt-ltb, le-ltb, not-true, not-false}
 use lib.Dec.{ltb}
 use lib.ListN.{length}
@@ -22,8 +21,8 @@ returns-then-i-lt-ENTRIES c =
     let sound = not-false (sound_table t) (sym c.unsound.ensures ∙ c.if-unsound.false) in
     let present = ap₂ ltb (sym c.place_of-i.ensures) size in
     let r =
-        remove_done t c.args.x _ (rw (sound, present ∙ lt-ltb _ _ c.if-i-lt-ENTRIES.true))
-        (ap₂ (put t) c.place_of-i.ensures c.free_entry.ensures) in
+    remove_done t c.args.x _ (rw (sound, present ∙ lt-ltb _ _ c.if-i-lt-ENTRIES.true))
+    (ap₂ (put t) c.place_of-i.ensures c.free_entry.ensures) in
     record { answer_value = r.0; table_value = r.1 }
 
 pub returns-else-i-lt-ENTRIES : goal.returns-else-i-lt-ENTRIES

@@ -1,5 +1,5 @@
 -- The tests one by one, those of the header as the callee made them.
-use mathlib.Core.Path.{◌≡◌, sym, ap, ◌∙◌}
+use mathlib.Core.Path.{sym, ap, ◌∙◌}
 use Prim.Native.Nat.{ℕ, ◌-◌}
 use native.Mathlib.Omega.{arith}
 use lib.ListN.{length}
@@ -18,7 +18,7 @@ returns-in-Refuse c =
     let a = c.args in
     let f = a.frame.now in
     rw (sym c.sound_table.ensures ∙ c.if-not-sound_table.false)
-        (refuses (header_tests a.wrong f) (body_test a.least a.most f) (header_of f) _ c.in-Refuse.ensures)
+    (refuses (header_tests a.wrong f) (body_test a.least a.most f) (header_of f) _ c.in-Refuse.ensures)
 
 pub overflow_sub-frame : goal.overflow_sub-frame
 overflow_sub-frame c =

@@ -74,8 +74,8 @@ returns-in-Refuse c =
     let f = c.args.frame.now in
     let count = c.counted.ensures ∙ ap (λ (m : ℕ). counted format_count m t.format_errors) c.count_of.ensures in
     let r =
-        open_refused t f c.args.out.now (header_of f) _ _ c.in-Refuse.ensures
-        (λ i. record { entries = t.entries; format_errors = count i }) in
+    open_refused t f c.args.out.now (header_of f) _ _ c.in-Refuse.ensures
+    (λ i. record { entries = t.entries; format_errors = count i }) in
     record { answer_value = r.0; table_value = r.1.0; out_after = r.1.1 }
 
 pub returns-then-e : goal.returns-then-e
@@ -87,16 +87,16 @@ returns-then-e c =
     let i = c.place_of-i.result in
     let size : length t.entries ≡ table_entries = search rules in
     let found =
-        place_is t f _ _ c.in-Pass.header.length i (fields t f o _ p).length_is c.address_at-own.ensures c.address_at-peer.ensures c.place_of-i.ensures in
+    place_is t f _ _ c.in-Pass.header.length i (fields t f o _ p).length_is c.address_at-own.ensures c.address_at-peer.ensures c.place_of-i.ensures in
     let same = read_at t size i _ c.if-i-lt-ENTRIES.true in
     let receiver = ap (λ (e : Entry). e.receiver) same in
     let e = c.«open-opened».ensures in
     let r =
-        open_served t f o i found (passed t f o _ p) c.«open-opened».result.answer _ _
-        (flag_at t size i (λ e. e.may_receive) _ true c.if-i-lt-ENTRIES.true c.if-e.true)
-        (e.answer_value ∙ ap (λ (r : Receiver). told (open_answer r f o)) receiver)
-        (ap (put t i) (ap₂ with_receiver same (e.receiver_value ∙ ap (λ (r : Receiver). open_next r f o) receiver)))
-        (e.out_after ∙ ap (λ (r : Receiver). open_output r f o) receiver) in
+    open_served t f o i found (passed t f o _ p) c.«open-opened».result.answer _ _
+    (flag_at t size i (λ e. e.may_receive) _ true c.if-i-lt-ENTRIES.true c.if-e.true)
+    (e.answer_value ∙ ap (λ (r : Receiver). told (open_answer r f o)) receiver)
+    (ap (put t i) (ap₂ with_receiver same (e.receiver_value ∙ ap (λ (r : Receiver). open_next r f o) receiver)))
+    (e.out_after ∙ ap (λ (r : Receiver). open_output r f o) receiver) in
     record { answer_value = r.0; table_value = r.1.0; out_after = r.1.1 }
 
 pub returns-else-e : goal.returns-else-e
@@ -108,10 +108,10 @@ returns-else-e c =
     let i = c.place_of-i.result in
     let size : length t.entries ≡ table_entries = search rules in
     let found =
-        place_is t f _ _ c.in-Pass.header.length i (fields t f o _ p).length_is c.address_at-own.ensures c.address_at-peer.ensures c.place_of-i.ensures in
+    place_is t f _ _ c.in-Pass.header.length i (fields t f o _ p).length_is c.address_at-own.ensures c.address_at-peer.ensures c.place_of-i.ensures in
     let r =
-        open_missed t f o i found (passed t f o _ p)
-        (flag_at t size i (λ e. e.may_receive) _ false c.if-i-lt-ENTRIES.true c.if-e.false) in
+    open_missed t f o i found (passed t f o _ p)
+    (flag_at t size i (λ e. e.may_receive) _ false c.if-i-lt-ENTRIES.true c.if-e.false) in
     record { answer_value = r.0; table_value = r.1.0; out_after = r.1.1 }
 
 pub returns-else-i-lt-ENTRIES : goal.returns-else-i-lt-ENTRIES
@@ -123,6 +123,6 @@ returns-else-i-lt-ENTRIES c =
     let i = c.place_of-i.result in
     let size : length t.entries ≡ table_entries = search rules in
     let found =
-        place_is t f _ _ c.in-Pass.header.length i (fields t f o _ p).length_is c.address_at-own.ensures c.address_at-peer.ensures c.place_of-i.ensures in
+    place_is t f _ _ c.in-Pass.header.length i (fields t f o _ p).length_is c.address_at-own.ensures c.address_at-peer.ensures c.place_of-i.ensures in
     let r = open_missed t f o i found (passed t f o _ p) (rw (no_place t size i c.if-i-lt-ENTRIES.false)) in
     record { answer_value = r.0; table_value = r.1.0; out_after = r.1.1 }

@@ -1,5 +1,5 @@
 -- The tests before the search, the addresses as they are read, and what the entry's own call gives.
-use mathlib.Core.Path.{◌≡◌, sym, ap, ap₂, ◌∙◌}
+use mathlib.Core.Path.{◌≡◌, ap, ap₂, ◌∙◌}
 use mathlib.Core.Bool.{true, false}
 use mathlib.Core.List.{List}
 use Prim.Native.Nat.{ℕ, ◌+◌, ◌≤◌}
@@ -63,11 +63,11 @@ returns-then-e c =
     let sender : c.sender_of.result ≡ sender_of (entry_at t i) = c.sender_of.ensures ∙ ap sender_of same in
     let e = c.seal-sealed.ensures in
     let r =
-        seal_served t c.args.key_id f o i found (passed t f o _ c.in-Pass.ensures) c.seal-sealed.result.answer _ _
-        (flag_at t size i (λ e. e.may_send) _ true c.if-i-lt-ENTRIES.true c.if-e.true)
-        (e.answer_value ∙ ap (λ (s : Sender). told (seal_answer s f o)) sender)
-        (ap (put t i) (ap₂ with_sender same (e.sender_value ∙ ap (λ (s : Sender). seal_next s f o) sender)))
-        (e.out_after ∙ ap (λ (s : Sender). seal_output s f o) sender) in
+    seal_served t c.args.key_id f o i found (passed t f o _ c.in-Pass.ensures) c.seal-sealed.result.answer _ _
+    (flag_at t size i (λ e. e.may_send) _ true c.if-i-lt-ENTRIES.true c.if-e.true)
+    (e.answer_value ∙ ap (λ (s : Sender). told (seal_answer s f o)) sender)
+    (ap (put t i) (ap₂ with_sender same (e.sender_value ∙ ap (λ (s : Sender). seal_next s f o) sender)))
+    (e.out_after ∙ ap (λ (s : Sender). seal_output s f o) sender) in
     record { answer_value = r.0; table_value = r.1.0; out_after = r.1.1 }
 
 pub returns-else-e : goal.returns-else-e
@@ -79,8 +79,8 @@ returns-else-e c =
     let size : length t.entries ≡ table_entries = search rules in
     let found = place_is t f _ _ c.args.key_id i c.address_at-own.ensures c.address_at-peer.ensures c.place_of-i.ensures in
     let r =
-        seal_missed t c.args.key_id f o i found (passed t f o _ c.in-Pass.ensures)
-        (flag_at t size i (λ e. e.may_send) _ false c.if-i-lt-ENTRIES.true c.if-e.false) in
+    seal_missed t c.args.key_id f o i found (passed t f o _ c.in-Pass.ensures)
+    (flag_at t size i (λ e. e.may_send) _ false c.if-i-lt-ENTRIES.true c.if-e.false) in
     record { answer_value = r.0; table_value = r.1.0; out_after = r.1.1 }
 
 pub returns-else-i-lt-ENTRIES : goal.returns-else-i-lt-ENTRIES

@@ -1,7 +1,7 @@
 use mathlib.Core.Path.{◌≡◌, refl, sym, ap, ◌∙◌}
 use mathlib.Core.Bool.{true, not}
 use mathlib.Core.List.{List}
-use Prim.Native.Nat.{ℕ, ◌+◌, ◌-◌, ◌≤◌}
+use Prim.Native.Nat.{ℕ, ◌≤◌}
 use native.Mathlib.Omega.{arith}
 use borrow.Author.Rules.{rules}
 use lib.ListN.{length, drop}
@@ -40,12 +40,11 @@ returns-then-clashes c =
     rw (each _ _ c.loop-i.invariant.2 c.loop-i.invariant.1 c.loop-i-test.false, c.loop-k.invariant.1 ∙ fails apart apart_from refl (λ a es. refl) _ c.loop-k.k _ (search rules) (c.loop-j.invariant.1 ∙ none))
 
 pub loop-j-preserved : goal.loop-j-preserved
-loop-j-preserved c =
-    (
-      search rules,
-      c.loop-j.invariant.1 ∙ goes_on (apart_from _) (λ b es. not (clash _ b)) refl (λ b es. refl) _ c.loop-j.j _ (search rules)
-          (ap not (sym c.clashes.ensures ∙ c.if-clashes.false)),
-    )
+loop-j-preserved c = (
+  search rules,
+  c.loop-j.invariant.1 ∙ goes_on (apart_from _) (λ b es. not (clash _ b)) refl (λ b es. refl) _ c.loop-j.j _ (search rules)
+      (ap not (sym c.clashes.ensures ∙ c.if-clashes.false)),
+)
 
 pub loop-k-preserved : goal.loop-k-preserved
 loop-k-preserved c =

@@ -1,13 +1,8 @@
-use mathlib.Core.Path.{◌≡◌, refl, sym, ap, ◌∙◌}
-use mathlib.Core.Bool.{true, not}
+use mathlib.Core.Path.{◌≡◌}
 use Prim.Native.Nat.{◌+◌, ◌-◌, ◌≤◌}
-use native.Mathlib.Omega.{arith}
-use borrow.Author.Rules.{rules}
-use borrow.Author.Tests.{not-true, not-false}
-use lib.ListN.{length, drop, length-map}
+use lib.ListN.{length, drop}
 use Rattle.rules.specs.Limits.{table_entries}
-use Rattle.rules.specs.Table.{clash, apart_from, apart, sound_entry, all_sound, sound_table}
-use Rattle.table.proofs.Loops.{fails, goes_on, all_pass}
+use Rattle.rules.specs.Table.{apart_from, apart, all_sound}
 use Rattle.table.proofs.sound.sound_table.Given as goal
 
 -- Entry by entry, and then each entry with those after it.
