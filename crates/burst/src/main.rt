@@ -41,37 +41,37 @@ fn sends(sender: Sender, sequence: u8) -> Sent {
 }
 
 // A box opens the frame and tells what it answers.
-fn opens(receiver: Receiver, frame: Sent) -> Receiver {
+fn opens(rt: HostRuntime, receiver: Receiver, frame: Sent) -> Receiver {
     let air = frame.air;
     let mut plain = [0u8; SEALED];
     let opened = ccmp::open(receiver, &air, &mut plain);
     let answer = opened.answer;
     match answer {
         Answer::Done(_, _, _) => {
-            show::text(b"0");
+            show::text(rt, b"0");
         }
         Answer::Refused(number) => {
-            show::number(number as u64);
+            show::number(rt, number as u64);
         }
     }
     opened.receiver
 }
 
 // Both boxes hear the frame with number n.
-fn hear(boxes: Boxes, n: u64, frame: Sent) -> Boxes {
-    show::text(b"number ");
-    show::number(n);
-    show::text(b": windows of 16 answer ");
+fn hear(rt: HostRuntime, boxes: Boxes, n: u64, frame: Sent) -> Boxes {
+    show::text(rt, b"number ");
+    show::number(rt, n);
+    show::text(rt, b": windows of 16 answer ");
     let before = boxes.large;
-    let large = opens(before, frame);
-    show::text(b", windows of 1 answer ");
+    let large = opens(rt, before, frame);
+    show::text(rt, b", windows of 1 answer ");
     let before = boxes.small;
-    let small = opens(before, frame);
-    show::text(b"\n");
+    let small = opens(rt, before, frame);
+    show::text(rt, b"\n");
     Boxes { large, small }
 }
 
-fn main() {
+fn main(rt: HostRuntime) {
     let made = ccmp::fresh_sender(KEY, 0, CAMERA);
     let sender = made.sender;
     let one = sends(sender, 0x00);
@@ -85,10 +85,10 @@ fn main() {
     let large = meets(ccmp::LARGE_WINDOW);
     let small = meets(ccmp::SMALL_WINDOW);
     let boxes = Boxes { large, small };
-    let boxes = hear(boxes, 1, one);
-    let boxes = hear(boxes, 4, four);
+    let boxes = hear(rt, boxes, 1, one);
+    let boxes = hear(rt, boxes, 4, four);
     // Numbers 2 and 3 come late, and 2 again.
-    let boxes = hear(boxes, 2, two);
-    let boxes = hear(boxes, 3, three);
-    hear(boxes, 2, two);
+    let boxes = hear(rt, boxes, 2, two);
+    let boxes = hear(rt, boxes, 3, three);
+    hear(rt, boxes, 2, two);
 }

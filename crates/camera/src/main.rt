@@ -4,23 +4,23 @@
 use rules::Answer;
 
 // What a call answered: the octets that it wrote, or the number of the refusal.
-fn print(label: &[u8], answer: Answer, out: &[u8]) {
-    show::text(label);
+fn print(rt: HostRuntime, label: &[u8], answer: Answer, out: &[u8]) {
+    show::text(rt, label);
     match answer {
         Answer::Done(_, _, length) => {
             if length <= out.len() {
-                show::octets(&out[0..length]);
+                show::octets(rt, &out[0..length]);
             }
         }
         Answer::Refused(number) => {
-            show::text(b"refused, answer ");
-            show::number(number as u64);
+            show::text(rt, b"refused, answer ");
+            show::number(rt, number as u64);
         }
     }
-    show::text(b"\n");
+    show::text(rt, b"\n");
 }
 
-fn main() {
+fn main(rt: HostRuntime) {
     // Both sides hold one key, under the key ID 0, and the camera's address.
     let key = [7u8; 16];
     let camera: [u8; 6] = *b"\x02cam-1";
@@ -37,27 +37,27 @@ fn main() {
     let sealed = ccmp::seal(sender, frame, &mut air);
     let sender = sealed.sender;
     let answer = sealed.answer;
-    print(b"sealed ", answer, &air);
+    print(rt, b"sealed ", answer, &air);
 
     let mut plain = [0u8; 33];
     let opened = ccmp::open(receiver, &air, &mut plain);
     let receiver = opened.receiver;
     let answer = opened.answer;
-    print(b"opened ", answer, &plain);
+    print(rt, b"opened ", answer, &plain);
 
     // The same frame again is a replay.
     let again = ccmp::open(receiver, &air, &mut plain);
     let receiver = again.receiver;
     let answer = again.answer;
-    print(b"again: ", answer, &plain);
+    print(rt, b"again: ", answer, &plain);
 
     let second: &[u8] = b"\x08\x01\x00\x00router\x02cam-1router\x20\x00picture 2";
     let mut air = [0u8; 49];
     let sealed = ccmp::seal(sender, second, &mut air);
     let answer = sealed.answer;
-    print(b"sealed ", answer, &air);
+    print(rt, b"sealed ", answer, &air);
     let mut plain = [0u8; 33];
     let opened = ccmp::open(receiver, &air, &mut plain);
     let answer = opened.answer;
-    print(b"opened ", answer, &plain);
+    print(rt, b"opened ", answer, &plain);
 }

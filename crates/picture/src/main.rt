@@ -46,54 +46,60 @@ fn taken(header: [u8; HEADER], slope: u8) -> [u8; FRAME] {
 
 // The camera splits the picture of a frame and seals the fragments, one after another, under its next numbers. The call hands
 // back the sender for the next one.
-fn sends(name: &[u8], sender: Sender, frame: [u8; FRAME], air: &mut [u8]) -> Sender {
+fn sends(
+    rt: HostRuntime,
+    name: &[u8],
+    sender: Sender,
+    frame: [u8; FRAME],
+    air: &mut [u8],
+) -> Sender {
     let split = fragments::split(sender, SIZE, &frame, air);
     let next = split.sender;
     let answer = split.answer;
-    show::text(name);
+    show::text(rt, name);
     match answer {
         Answer::Done(first, _, length) => {
-            show::text(b" sends ");
-            show::number(length as u64);
-            show::text(b" octets under the numbers ");
-            show::number(first);
-            show::text(b" to ");
-            show::number(next.last);
+            show::text(rt, b" sends ");
+            show::number(rt, length as u64);
+            show::text(rt, b" octets under the numbers ");
+            show::number(rt, first);
+            show::text(rt, b" to ");
+            show::number(rt, next.last);
         }
         Answer::Refused(number) => {
-            show::text(b": splitting refuses, answer ");
-            show::number(number as u64);
+            show::text(rt, b": splitting refuses, answer ");
+            show::number(rt, number as u64);
         }
     }
-    show::text(b"\n");
+    show::text(rt, b"\n");
     next
 }
 
 // What a call of the box answered, where that is worth telling: a joiner writes nothing before the last fragment.
-fn tell(name: &[u8], call: &[u8], answer: Answer) {
+fn tell(rt: HostRuntime, name: &[u8], call: &[u8], answer: Answer) {
     match answer {
         Answer::Done(number, _, length) => {
             if length != 0 {
-                show::text(name);
-                show::text(b": a picture of ");
-                show::number(length as u64);
-                show::text(b" octets is whole with number ");
-                show::number(number);
-                show::text(b"\n");
+                show::text(rt, name);
+                show::text(rt, b": a picture of ");
+                show::number(rt, length as u64);
+                show::text(rt, b" octets is whole with number ");
+                show::number(rt, number);
+                show::text(rt, b"\n");
             }
         }
         Answer::Refused(number) => {
-            show::text(name);
-            show::text(call);
-            show::number(number as u64);
-            show::text(b"\n");
+            show::text(rt, name);
+            show::text(rt, call);
+            show::number(rt, number as u64);
+            show::text(rt, b"\n");
         }
     }
 }
 
 // The box opens a fragment of a camera and joins what it opened, under the number that opening named. It keeps the records
 // that the calls hand back. What opening refuses, it doesn't join.
-fn hears(name: &[u8], kept: Kept, sealed: &[u8], picture: &mut [u8]) -> Kept {
+fn hears(rt: HostRuntime, name: &[u8], kept: Kept, sealed: &[u8], picture: &mut [u8]) -> Kept {
     let receiver = kept.receiver;
     let joiner = kept.joiner;
     let mut frame = [0u8; HEADER + SIZE];
@@ -105,11 +111,11 @@ fn hears(name: &[u8], kept: Kept, sealed: &[u8], picture: &mut [u8]) -> Kept {
             let joined = fragments::join(joiner, &frame[0..length], number, picture);
             let joiner = joined.joiner;
             let answer = joined.answer;
-            tell(name, b": joining refuses, answer ", answer);
+            tell(rt, name, b": joining refuses, answer ", answer);
             return Kept { receiver, joiner };
         }
     }
-    tell(name, b": opening refuses, answer ", answer);
+    tell(rt, name, b": opening refuses, answer ", answer);
     Kept { receiver, joiner }
 }
 
@@ -127,6 +133,7 @@ fn fragment<'a>(air: &'a [u8; AIR], i: usize) -> &'a [u8]
 
 // The box hears fragments `from` to `to` - 1, in order.
 fn hears_some(
+    rt: HostRuntime,
     name: &[u8],
     kept: Kept,
     air: [u8; AIR],
@@ -139,7 +146,7 @@ fn hears_some(
     let mut now = kept;
     let mut i = from;
     while i < to {
-        let next = hears(name, now, fragment(&air, i), picture);
+        let next = hears(rt, name, now, fragment(&air, i), picture);
         now = next;
         i += 1;
     }
@@ -155,44 +162,52 @@ fn meets(key: [u8; 16], camera: [u8; 6]) -> Kept {
 }
 
 // Whether the picture that the box has is that of the frame.
-fn compare(name: &[u8], picture: [u8; PICTURE], frame: [u8; FRAME]) {
-    show::text(name);
+fn compare(rt: HostRuntime, name: &[u8], picture: [u8; PICTURE], frame: [u8; FRAME]) {
+    show::text(rt, name);
     if octets::equal(&picture, &frame[HEADER..]) {
-        show::text(b": it is the picture that was taken\n");
+        show::text(rt, b": it is the picture that was taken\n");
     } else {
-        show::text(b": it is NOT the picture that was taken\n");
+        show::text(rt, b": it is NOT the picture that was taken\n");
     }
 }
 
 // Two cameras, each with a key of its own, send a picture each. The box keeps a receiver and a joiner for each.
-fn two_cameras() {
+fn two_cameras(rt: HostRuntime) {
     let made = ccmp::fresh_sender([7; 16], 0, *b"\x02ridge");
     let sender = made.sender;
     let ridge_frame = taken(*b"\x08\x01\x00\x00router\x02ridgerouter\x10\x00", 7);
     let mut ridge_air = [0u8; AIR];
-    sends(b"ridge", sender, ridge_frame, &mut ridge_air);
+    sends(rt, b"ridge", sender, ridge_frame, &mut ridge_air);
 
     let made = ccmp::fresh_sender([8; 16], 0, *b"\x02gully");
     let sender = made.sender;
     let gully_frame = taken(*b"\x08\x01\x00\x00router\x02gullyrouter\x10\x00", 11);
     let mut gully_air = [0u8; AIR];
-    sends(b"gully", sender, gully_frame, &mut gully_air);
+    sends(rt, b"gully", sender, gully_frame, &mut gully_air);
 
     let ridge = meets([7; 16], *b"\x02ridge");
     let gully = meets([8; 16], *b"\x02gully");
     let mut ridge_picture = [0u8; PICTURE];
     let mut gully_picture = [0u8; PICTURE];
-    show::text(b"the fragments of both arrive mixed\n");
-    let ridge = hears_some(b"ridge", ridge, ridge_air, 0, 6, &mut ridge_picture);
-    let gully = hears_some(b"gully", gully, gully_air, 0, 10, &mut gully_picture);
-    hears_some(b"ridge", ridge, ridge_air, 6, COUNT, &mut ridge_picture);
-    hears_some(b"gully", gully, gully_air, 10, COUNT, &mut gully_picture);
-    compare(b"ridge", ridge_picture, ridge_frame);
-    compare(b"gully", gully_picture, gully_frame);
+    show::text(rt, b"the fragments of both arrive mixed\n");
+    let ridge = hears_some(rt, b"ridge", ridge, ridge_air, 0, 6, &mut ridge_picture);
+    let gully = hears_some(rt, b"gully", gully, gully_air, 0, 10, &mut gully_picture);
+    hears_some(rt, b"ridge", ridge, ridge_air, 6, COUNT, &mut ridge_picture);
+    hears_some(
+        rt,
+        b"gully",
+        gully,
+        gully_air,
+        10,
+        COUNT,
+        &mut gully_picture,
+    );
+    compare(rt, b"ridge", ridge_picture, ridge_frame);
+    compare(rt, b"gully", gully_picture, gully_frame);
 }
 
 // The fragments of one camera arrive over bad air.
-fn bad_air() {
+fn bad_air(rt: HostRuntime) {
     let made = ccmp::fresh_sender([9; 16], 0, *b"\x02scree");
     let sender = made.sender;
     let kept = meets([9; 16], *b"\x02scree");
@@ -201,27 +216,27 @@ fn bad_air() {
 
     // Fragment 4 arrives twice. The second time its number is a replay, and the joiner doesn't see it.
     let frame = taken(*b"\x08\x01\x00\x00router\x02screerouter\x10\x00", 13);
-    let sender = sends(b"scree", sender, frame, &mut air);
-    show::text(b"fragment 4 arrives twice\n");
-    let kept = hears_some(b"scree", kept, air, 0, 5, &mut picture);
-    let kept = hears_some(b"scree", kept, air, 4, COUNT, &mut picture);
-    compare(b"scree", picture, frame);
+    let sender = sends(rt, b"scree", sender, frame, &mut air);
+    show::text(rt, b"fragment 4 arrives twice\n");
+    let kept = hears_some(rt, b"scree", kept, air, 0, 5, &mut picture);
+    let kept = hears_some(rt, b"scree", kept, air, 4, COUNT, &mut picture);
+    compare(rt, b"scree", picture, frame);
 
     // Fragment 11 is lost. The next one drops what the joiner held, and no later one can be joined.
     let frame = taken(*b"\x08\x01\x00\x00router\x02screerouter\x20\x00", 17);
-    let sender = sends(b"scree", sender, frame, &mut air);
-    show::text(b"fragment 11 is lost\n");
-    let kept = hears_some(b"scree", kept, air, 0, 11, &mut picture);
-    let kept = hears_some(b"scree", kept, air, 12, COUNT, &mut picture);
+    let sender = sends(rt, b"scree", sender, frame, &mut air);
+    show::text(rt, b"fragment 11 is lost\n");
+    let kept = hears_some(rt, b"scree", kept, air, 0, 11, &mut picture);
+    let kept = hears_some(rt, b"scree", kept, air, 12, COUNT, &mut picture);
 
     // Fragment 0 starts anew.
-    show::text(b"the picture is sent again\n");
-    sends(b"scree", sender, frame, &mut air);
-    hears_some(b"scree", kept, air, 0, COUNT, &mut picture);
-    compare(b"scree", picture, frame);
+    show::text(rt, b"the picture is sent again\n");
+    sends(rt, b"scree", sender, frame, &mut air);
+    hears_some(rt, b"scree", kept, air, 0, COUNT, &mut picture);
+    compare(rt, b"scree", picture, frame);
 }
 
-fn main() {
-    two_cameras();
-    bad_air();
+fn main(rt: HostRuntime) {
+    two_cameras(rt);
+    bad_air(rt);
 }

@@ -59,39 +59,39 @@ fn new_camera(n: u8, key: [u8; 16]) -> Camera {
 }
 
 // The number of an answer, 0 for done, and the packet number where it names one.
-fn tell(answer: Answer) {
+fn tell(rt: HostRuntime, answer: Answer) {
     match answer {
         Answer::Done(number, _, _) => {
-            show::text(b"0");
+            show::text(rt, b"0");
             if number != 0 {
-                show::text(b", number ");
-                show::number(number);
+                show::text(rt, b", number ");
+                show::number(rt, number);
             }
         }
         Answer::Refused(refusal) => {
-            show::number(refusal as u64);
+            show::number(rt, refusal as u64);
         }
     }
 }
 
 // The table after a call for camera n, whose answer is printed.
-fn after(n: u8, call: &[u8], answered: Answered) -> Table {
-    show::text(b"camera ");
-    show::number(n as u64);
-    show::text(call);
-    show::text(b": answer ");
+fn after(rt: HostRuntime, n: u8, call: &[u8], answered: Answered) -> Table {
+    show::text(rt, b"camera ");
+    show::number(rt, n as u64);
+    show::text(rt, call);
+    show::text(rt, b": answer ");
     let answer = answered.answer;
-    tell(answer);
-    show::text(b"\n");
+    tell(rt, answer);
+    show::text(rt, b"\n");
     answered.table
 }
 
 // The box adds cameras 1 to 16. A real key is agreed with its camera; no two entries may have the same.
-fn adds_sixteen() -> Site {
+fn adds_sixteen(rt: HostRuntime) -> Site {
     let mut table = table::new_table();
     let none = new_camera(0, [0; 16]);
     let mut cameras = [none; ENTRIES];
-    show::text(b"cameras 1 to 16 enter: answers");
+    show::text(rt, b"cameras 1 to 16 enter: answers");
     for i in 0..ENTRIES {
         let n = i as u8 + 1;
         let key = [n; 16];
@@ -99,10 +99,10 @@ fn adds_sixteen() -> Site {
         let added = table::add(table, pairing(n, key));
         table = added.table;
         let answer = added.answer;
-        show::text(b" ");
-        tell(answer);
+        show::text(rt, b" ");
+        tell(rt, answer);
     }
-    show::text(b"\n");
+    show::text(rt, b"\n");
     Site { table, cameras }
 }
 
@@ -118,101 +118,106 @@ fn sends(camera: Camera, n: u8, air: &mut [u8]) -> Camera {
 }
 
 // The box opens what it hears. The table finds the entry; n is only for the line that is printed.
-fn hears(table: Table, n: u8, call: &[u8], air: &[u8]) -> Table {
+fn hears(rt: HostRuntime, table: Table, n: u8, call: &[u8], air: &[u8]) -> Table {
     let mut frame = [0u8; FRAME];
     let opened = table::open(table, air, &mut frame);
-    after(n, call, opened)
+    after(rt, n, call, opened)
 }
 
-fn each_sends(site: Site) -> Site {
+fn each_sends(rt: HostRuntime, site: Site) -> Site {
     let mut table = site.table;
     let mut cameras = site.cameras;
     for i in 0..ENTRIES {
         let n = i as u8 + 1;
         let mut air = [0u8; SEALED];
         cameras[i] = sends(cameras[i], n, &mut air);
-        table = hears(table, n, b" sends", &air);
+        table = hears(rt, table, n, b" sends", &air);
     }
     Site { table, cameras }
 }
 
 // A frame of camera 5 arrives twice, and then half of it.
-fn bad_air(table: Table, fifth: Camera) -> Table {
+fn bad_air(rt: HostRuntime, table: Table, fifth: Camera) -> Table {
     let mut air = [0u8; SEALED];
     sends(fifth, 5, &mut air);
-    let table = hears(table, 5, b" sends", &air);
-    let table = hears(table, 5, b" sends it again", &air);
-    hears(table, 5, b" sends half of it", &air[0..20])
+    let table = hears(rt, table, 5, b" sends", &air);
+    let table = hears(rt, table, 5, b" sends it again", &air);
+    hears(rt, table, 5, b" sends half of it", &air[0..20])
 }
 
 // The box seals a frame for camera 3, which opens it with its own receiver.
-fn sends_back(table: Table, third: Camera) -> Table {
+fn sends_back(rt: HostRuntime, table: Table, third: Camera) -> Table {
     let frame: &[u8] = b"\x08\x02\x00\x00\x02cam-\x03\x02box-1\x02box-1\x10\x00look left";
     let mut air = [0u8; SEALED];
     let sealed = table::seal(table, 0, frame, &mut air);
     let mut plain = [0u8; FRAME];
     let opened = ccmp::open(third.receiver, &air, &mut plain);
-    let table = after(3, b" is sent a frame", sealed);
+    let table = after(rt, 3, b" is sent a frame", sealed);
     let answer = opened.answer;
-    show::text(b"camera 3 opens it: answer ");
-    tell(answer);
-    show::text(b"\n");
+    show::text(rt, b"camera 3 opens it: answer ");
+    tell(rt, answer);
+    show::text(rt, b"\n");
     table
 }
 
 // Camera 9 gets a new key, while a frame under the old one is still on its way.
-fn changes_key(table: Table, ninth: Camera) -> Table {
+fn changes_key(rt: HostRuntime, table: Table, ninth: Camera) -> Table {
     let mut late = [0u8; SEALED];
     sends(ninth, 9, &mut late);
     let key = [109u8; 16];
-    let table = after(9, b" changes its key", table::add(table, pairing(9, key)));
-    let table = hears(table, 9, b" sent under the old key", &late);
+    let table = after(
+        rt,
+        9,
+        b" changes its key",
+        table::add(table, pairing(9, key)),
+    );
+    let table = hears(rt, table, 9, b" sent under the old key", &late);
     let ninth = new_camera(9, key);
     let mut air = [0u8; SEALED];
     sends(ninth, 9, &mut air);
-    hears(table, 9, b" sends under the new key", &air)
+    hears(rt, table, 9, b" sends under the new key", &air)
 }
 
 // Camera 17 finds no room until camera 12 is removed.
-fn makes_room(table: Table, twelfth: Camera) -> Table {
+fn makes_room(rt: HostRuntime, table: Table, twelfth: Camera) -> Table {
     let key = [17u8; 16];
-    let table = after(17, b" enters", table::add(table, pairing(17, key)));
+    let table = after(rt, 17, b" enters", table::add(table, pairing(17, key)));
     let seventeenth = new_camera(17, key);
     let mut air = [0u8; SEALED];
     let seventeenth = sends(seventeenth, 17, &mut air);
-    let table = hears(table, 17, b" sends", &air);
+    let table = hears(rt, table, 17, b" sends", &air);
 
-    let table = after(12, b" leaves", table::remove(table, triple_of(12)));
+    let table = after(rt, 12, b" leaves", table::remove(table, triple_of(12)));
     sends(twelfth, 12, &mut air);
-    let table = hears(table, 12, b" sends", &air);
+    let table = hears(rt, table, 12, b" sends", &air);
 
-    let table = after(17, b" enters", table::add(table, pairing(17, key)));
+    let table = after(rt, 17, b" enters", table::add(table, pairing(17, key)));
     sends(seventeenth, 17, &mut air);
-    hears(table, 17, b" sends", &air)
+    hears(rt, table, 17, b" sends", &air)
 }
 
 // The table counts what is no frame, before it looks for an entry; an entry counts the rest. That of camera 5 is the fifth.
-fn tell_counts(table: Table) {
+fn tell_counts(rt: HostRuntime, table: Table) {
     let entry = table.entries[4];
     let receiver = entry.receiver;
     let counts = receiver.counts;
-    show::text(b"the table: format errors ");
-    show::number(table.format_errors as u64);
-    show::text(b"\ncamera 5: opened ");
-    show::number(counts.opened as u64);
-    show::text(b", replays ");
-    show::number(counts.replays as u64);
-    show::text(b"\n");
+    show::text(rt, b"the table: format errors ");
+    show::number(rt, table.format_errors as u64);
+    show::text(rt, b"\ncamera 5: opened ");
+    show::number(rt, counts.opened as u64);
+    show::text(rt, b", replays ");
+    show::number(rt, counts.replays as u64);
+    show::text(rt, b"\n");
 }
 
-fn main() {
-    let site = adds_sixteen();
-    let site = each_sends(site);
-    let site = each_sends(site);
+fn main(rt: HostRuntime) {
+    let site = adds_sixteen(rt);
+    let site = each_sends(rt, site);
+    let site = each_sends(rt, site);
     let cameras = site.cameras;
-    let table = bad_air(site.table, cameras[4]);
-    let table = sends_back(table, cameras[2]);
-    let table = changes_key(table, cameras[8]);
-    let table = makes_room(table, cameras[11]);
-    tell_counts(table);
+    let table = bad_air(rt, site.table, cameras[4]);
+    let table = sends_back(rt, table, cameras[2]);
+    let table = changes_key(rt, table, cameras[8]);
+    let table = makes_room(rt, table, cameras[11]);
+    tell_counts(rt, table);
 }

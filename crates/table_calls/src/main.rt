@@ -10,11 +10,11 @@
 ghost use Rattle.std.specs.Prelude.{◌+◌, ◌≤◌, ◌<◌, length};
 
 use ccmp::MOST_BODY;
-use libc::{STDIN_FILENO, STDOUT_FILENO};
 use rules::{
     ADDRESS_OCTETS, Answer, Counts, ENTRIES, Entry, KEY_OCTETS, PRIORITIES, Pairing, Receiver,
     Table, Triple,
 };
+use std::io::Read;
 use table::Answered;
 
 // The octets of an entry and of a table as they are written, and of a request before its frame.
@@ -154,11 +154,11 @@ fn in_octets(n: u64) -> [u8; 8] {
     ]
 }
 
-fn write_number(n: u64, octets: usize)
+fn write_number(rt: HostRuntime, n: u64, octets: usize)
     requires { octets ≤ 8 }
 {
     let b = in_octets(n);
-    io::write_all(STDOUT_FILENO, &b[0..octets]);
+    let _ = rt.write_all(&b[0..octets]);
 }
 
 fn flag(f: bool) -> u8 {
@@ -244,39 +244,39 @@ fn entry_octet(e: Entry, i: usize) -> u8 {
     receiver_octet(r, e.last, i - 9)
 }
 
-fn write_entry(e: Entry) {
+fn write_entry(rt: HostRuntime, e: Entry) {
     let mut b = [0u8; ENTRY];
     let mut i: usize = 0;
     while i < ENTRY {
         b[i] = entry_octet(e, i);
         i += 1;
     }
-    io::write_all(STDOUT_FILENO, &b);
+    let _ = rt.write_all(&b);
 }
 
-fn write_table(t: Table) {
+fn write_table(rt: HostRuntime, t: Table) {
     let mut i: usize = 0;
     while i < ENTRIES {
         let e = t.entries[i];
-        write_entry(e);
+        write_entry(rt, e);
         i += 1;
     }
-    write_number(t.format_errors as u64, 4);
+    write_number(rt, t.format_errors as u64, 4);
 }
 
-fn write_answer(a: Answer) {
+fn write_answer(rt: HostRuntime, a: Answer) {
     match a {
         Answer::Done(n, p, k) => {
-            write_number(0, 8);
-            write_number(n, 8);
-            write_number(p as u64, 8);
-            write_number(k as u64, 8);
+            write_number(rt, 0, 8);
+            write_number(rt, n, 8);
+            write_number(rt, p as u64, 8);
+            write_number(rt, k as u64, 8);
         }
         Answer::Refused(x) => {
-            write_number(x as u64, 8);
-            write_number(0, 8);
-            write_number(0, 8);
-            write_number(0, 8);
+            write_number(rt, x as u64, 8);
+            write_number(rt, 0, 8);
+            write_number(rt, 0, 8);
+            write_number(rt, 0, 8);
         }
     }
 }
@@ -318,23 +318,23 @@ fn called(b: &[u8], frame: &[u8], room: &mut [u8]) -> Answered
 }
 
 // Reads what is lent, makes the call and writes what it leaves.
-fn serve(request: &[u8], frame: &mut [u8], room: &mut [u8])
+fn serve(rt: HostRuntime, request: &[u8], frame: &mut [u8], room: &mut [u8])
     requires { 3517 ≤ length request.now }
 {
-    io::read_full(STDIN_FILENO, frame);
-    io::read_full(STDIN_FILENO, room);
+    let _ = rt.stdin().read_exact(frame);
+    let _ = rt.stdin().read_exact(room);
     let done = called(request, frame, room);
     let answer = done.answer;
-    write_answer(answer);
+    write_answer(rt, answer);
     let t = done.table;
-    write_table(t);
-    io::write_all(STDOUT_FILENO, room);
+    write_table(rt, t);
+    let _ = rt.write_all(room);
 }
 
 // Whether there was a request.
-fn turn() -> bool {
+fn turn(rt: HostRuntime) -> bool {
     let mut request = [0u8; REQUEST];
-    if io::read_full(STDIN_FILENO, &mut request) < REQUEST {
+    if rt.stdin().read_exact(&mut request).is_err() {
         return false;
     }
     let f = u32_at(&request, TABLE + 33) as usize;
@@ -347,14 +347,14 @@ fn turn() -> bool {
     }
     let mut frame = [0u8; SPACE];
     let mut room = [0u8; SPACE];
-    serve(&request, &mut frame[0..f], &mut room[0..r]);
+    serve(rt, &request, &mut frame[0..f], &mut room[0..r]);
     true
 }
 
-fn main() {
+fn main(rt: HostRuntime) {
     let mut turns: u64 = 0xffff_ffff_ffff_ffff;
     while 0 < turns {
-        if !turn() {
+        if !turn(rt) {
             return;
         }
         turns -= 1;

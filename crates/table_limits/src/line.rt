@@ -60,47 +60,47 @@ fn same_numbers(a: Entry, b: Entry) -> bool {
         && same_windows(r, s)
 }
 
-fn print_address(a: [u8; 6]) {
-    show::octets(&a);
+fn print_address(rt: HostRuntime, a: [u8; 6]) {
+    show::octets(rt, &a);
 }
 
-fn print_key(k: [u8; 16]) {
-    show::octets(&k);
+fn print_key(rt: HostRuntime, k: [u8; 16]) {
+    show::octets(rt, &k);
 }
 
-fn print_pairing(e: Entry) {
+fn print_pairing(rt: HostRuntime, e: Entry) {
     let r = e.receiver;
     let own = e.own;
     let peer = r.peer;
     let key = r.key;
-    show::text(b" own ");
-    print_address(own);
-    show::text(b" peer ");
-    print_address(peer);
-    show::text(b" key ID ");
-    show::number(r.key_id as u64);
-    show::text(b" key ");
-    print_key(key);
+    show::text(rt, b" own ");
+    print_address(rt, own);
+    show::text(rt, b" peer ");
+    print_address(rt, peer);
+    show::text(rt, b" key ID ");
+    show::number(rt, r.key_id as u64);
+    show::text(rt, b" key ");
+    print_key(rt, key);
     if r.size != SMALL_WINDOW {
-        show::text(b" size ");
-        show::number(r.size as u64);
+        show::text(rt, b" size ");
+        show::number(rt, r.size as u64);
     }
     if e.may_send {
-        show::text(b" may send");
+        show::text(rt, b" may send");
     }
     if e.may_receive {
-        show::text(b" may receive");
+        show::text(rt, b" may receive");
     }
 }
 
 // The numbers below the greatest that a window holds.
-fn print_window(greatest: u64, bits: u16) {
+fn print_window(rt: HostRuntime, greatest: u64, bits: u16) {
     let mut i: u16 = 1;
     while i < 16 {
         if (bits >> i) % 2 == 1 {
             if i as u64 <= greatest {
-                show::text(b" and ");
-                show::number(greatest - i as u64);
+                show::text(rt, b" and ");
+                show::number(rt, greatest - i as u64);
             }
         }
         i += 1;
@@ -108,95 +108,95 @@ fn print_window(greatest: u64, bits: u16) {
 }
 
 // The replay counters that are not 0, each with what its window holds more.
-fn print_counters(counters: [u64; PRIORITIES], bits: [u16; PRIORITIES]) {
+fn print_counters(rt: HostRuntime, counters: [u64; PRIORITIES], bits: [u16; PRIORITIES]) {
     let mut i: usize = 0;
     while i < PRIORITIES {
         if counters[i] != 0 {
-            show::text(b" counter ");
-            show::number(i as u64);
-            show::text(b" at ");
-            show::number(counters[i]);
-            print_window(counters[i], bits[i]);
+            show::text(rt, b" counter ");
+            show::number(rt, i as u64);
+            show::text(rt, b" at ");
+            show::number(rt, counters[i]);
+            print_window(rt, counters[i], bits[i]);
         }
         i += 1;
     }
 }
 
-fn print_numbers(e: Entry) {
+fn print_numbers(rt: HostRuntime, e: Entry) {
     let r = e.receiver;
     let counters = r.replay;
     let bits = r.seen;
     let c = r.counts;
-    show::text(b" last ");
-    show::number(e.last);
-    print_counters(counters, bits);
-    show::text(b" counts ");
-    show::number(c.format_errors as u64);
-    show::text(b" ");
-    show::number(c.replays as u64);
-    show::text(b" ");
-    show::number(c.decrypt_errors as u64);
-    show::text(b" ");
-    show::number(c.opened as u64);
+    show::text(rt, b" last ");
+    show::number(rt, e.last);
+    print_counters(rt, counters, bits);
+    show::text(rt, b" counts ");
+    show::number(rt, c.format_errors as u64);
+    show::text(rt, b" ");
+    show::number(rt, c.replays as u64);
+    show::text(rt, b" ");
+    show::number(rt, c.decrypt_errors as u64);
+    show::text(rt, b" ");
+    show::number(rt, c.opened as u64);
 }
 
 // What stands now at place i, if it differs; whether it does.
-fn print_entry(i: usize, before: Entry, after: Entry) -> bool {
+fn print_entry(rt: HostRuntime, i: usize, before: Entry, after: Entry) -> bool {
     let paired = same_pairing(before, after);
     if paired && same_numbers(before, after) {
         return false;
     }
-    show::text(b", place ");
-    show::number(i as u64);
+    show::text(rt, b", place ");
+    show::number(rt, i as u64);
     if !after.used {
-        show::text(b" free");
+        show::text(rt, b" free");
         return true;
     }
     if !paired {
-        print_pairing(after);
+        print_pairing(rt, after);
     }
-    print_numbers(after);
+    print_numbers(rt, after);
     true
 }
 
 // All that differs in two tables.
-fn print_changes(before: Table, after: Table) {
+fn print_changes(rt: HostRuntime, before: Table, after: Table) {
     let mut kept = before.format_errors == after.format_errors;
     let mut i: usize = 0;
     while i < ENTRIES {
         let a = before.entries[i];
         let b = after.entries[i];
-        if print_entry(i, a, b) {
+        if print_entry(rt, i, a, b) {
             kept = false;
         }
         i += 1;
     }
     if before.format_errors != after.format_errors {
-        show::text(b", format errors ");
-        show::number(after.format_errors as u64);
+        show::text(rt, b", format errors ");
+        show::number(rt, after.format_errors as u64);
     }
     if kept {
-        show::text(b", table kept");
+        show::text(rt, b", table kept");
     }
 }
 
 // Document 02 gives adding and removing, which write nothing, no number and no priority.
-fn print_answer(a: Answer) {
+fn print_answer(rt: HostRuntime, a: Answer) {
     match a {
         Answer::Done(n, p, k) => {
-            show::text(b"done");
+            show::text(rt, b"done");
             if k != 0 {
-                show::text(b" ");
-                show::number(n);
-                show::text(b" ");
-                show::number(p as u64);
-                show::text(b" ");
-                show::number(k as u64);
+                show::text(rt, b" ");
+                show::number(rt, n);
+                show::text(rt, b" ");
+                show::number(rt, p as u64);
+                show::text(rt, b" ");
+                show::number(rt, k as u64);
             }
         }
         Answer::Refused(x) => {
-            show::text(b"refused ");
-            show::number(x as u64);
+            show::text(rt, b"refused ");
+            show::number(rt, x as u64);
         }
     }
 }
@@ -210,93 +210,101 @@ fn written(a: Answer) -> usize {
 }
 
 // What an opened frame has after its first 24 octets.
-fn print_opened(out: [u8; SIZE], k: usize) {
+fn print_opened(rt: HostRuntime, out: [u8; SIZE], k: usize) {
     if 24 <= k {
         if k <= SIZE {
-            show::text(b" ");
-            show::octets(&out[24..k]);
+            show::text(rt, b" ");
+            show::octets(rt, &out[24..k]);
         }
     }
 }
 
 // Whether the output is as it was from octet k on.
-fn print_rest(out: [u8; SIZE], k: usize) {
+fn print_rest(rt: HostRuntime, out: [u8; SIZE], k: usize) {
     if k <= SIZE {
         let before = [0xaau8; SIZE];
         if octets::equal(&out[k..], &before[k..]) {
-            show::text(b", rest kept");
+            show::text(rt, b", rest kept");
             return;
         }
     }
-    show::text(b", rest CHANGED");
+    show::text(rt, b", rest CHANGED");
 }
 
-fn print_expected(expected: u64) {
-    show::text(b" | 02: ");
-    show::number(expected);
-    show::text(b"\n");
+fn print_expected(rt: HostRuntime, expected: u64) {
+    show::text(rt, b" | 02: ");
+    show::number(rt, expected);
+    show::text(rt, b"\n");
 }
 
-fn print_call(call: &[u8], what: &[u8]) {
-    show::text(call);
-    show::text(what);
-    show::text(b": ");
+fn print_call(rt: HostRuntime, call: &[u8], what: &[u8]) {
+    show::text(rt, call);
+    show::text(rt, what);
+    show::text(rt, b": ");
 }
 
 // The rest of a line on adding or removing.
-fn print_changed(t: Table, r: Answered, expected: u64) -> Table {
+fn print_changed(rt: HostRuntime, t: Table, r: Answered, expected: u64) -> Table {
     let answer = r.answer;
     let next = r.table;
-    print_answer(answer);
-    print_changes(t, next);
-    print_expected(expected);
+    print_answer(rt, answer);
+    print_changes(rt, t, next);
+    print_expected(rt, expected);
     next
 }
 
-pub(crate) fn adds(what: &[u8], t: Table, x: Pairing, expected: u64) -> Table {
-    print_call(b"add ", what);
-    print_changed(t, table::add(t, x), expected)
+pub(crate) fn adds(rt: HostRuntime, what: &[u8], t: Table, x: Pairing, expected: u64) -> Table {
+    print_call(rt, b"add ", what);
+    print_changed(rt, t, table::add(t, x), expected)
 }
 
-pub(crate) fn removes(what: &[u8], t: Table, x: Triple, expected: u64) -> Table {
-    print_call(b"remove ", what);
-    print_changed(t, table::remove(t, x), expected)
+pub(crate) fn removes(rt: HostRuntime, what: &[u8], t: Table, x: Triple, expected: u64) -> Table {
+    print_call(rt, b"remove ", what);
+    print_changed(rt, t, table::remove(t, x), expected)
 }
 
 // Adds camera i with key n.
-pub(crate) fn adds_camera(t: Table, i: u8, n: u8, expected: u64) -> Table {
-    show::text(b"add camera ");
-    show::number(i as u64);
-    show::text(b" with key ");
-    show::number(n as u64);
-    show::text(b": ");
-    print_changed(t, table::add(t, camera(i, n)), expected)
+pub(crate) fn adds_camera(rt: HostRuntime, t: Table, i: u8, n: u8, expected: u64) -> Table {
+    show::text(rt, b"add camera ");
+    show::number(rt, i as u64);
+    show::text(rt, b" with key ");
+    show::number(rt, n as u64);
+    show::text(rt, b": ");
+    print_changed(rt, t, table::add(t, camera(i, n)), expected)
 }
 
-pub(crate) fn removes_camera(t: Table, i: u8, expected: u64) -> Table {
-    show::text(b"remove camera ");
-    show::number(i as u64);
-    show::text(b": ");
-    print_changed(t, table::remove(t, triple(BOX, 64 | i, 2)), expected)
+pub(crate) fn removes_camera(rt: HostRuntime, t: Table, i: u8, expected: u64) -> Table {
+    show::text(rt, b"remove camera ");
+    show::number(rt, i as u64);
+    show::text(rt, b": ");
+    print_changed(rt, t, table::remove(t, triple(BOX, 64 | i, 2)), expected)
 }
 
 // Seals a frame with this room. The line has begun.
-pub(crate) fn seals_lent(t: Table, key_id: u8, frame: &[u8], room: usize, expected: u64) -> Table
+pub(crate) fn seals_lent(
+    rt: HostRuntime,
+    t: Table,
+    key_id: u8,
+    frame: &[u8],
+    room: usize,
+    expected: u64,
+) -> Table
     requires { room ≤ size }
 {
     let mut out = [0xaau8; SIZE];
     let sealed = table::seal(t, key_id, frame, &mut out[0..room]);
     let answer = sealed.answer;
     let next = sealed.table;
-    print_answer(answer);
-    print_changes(t, next);
-    print_rest(out, written(answer));
-    print_expected(expected);
+    print_answer(rt, answer);
+    print_changes(rt, t, next);
+    print_rest(rt, out, written(answer));
+    print_expected(rt, expected);
     next
 }
 
 // Seals the first k octets of a frame.
 pub(crate) fn seals_part(
+    rt: HostRuntime,
     what: &[u8],
     t: Table,
     key_id: u8,
@@ -307,42 +315,55 @@ pub(crate) fn seals_part(
 ) -> Table
     requires { (k ≤ size) × (room ≤ size) }
 {
-    print_call(b"seal ", what);
-    seals_lent(t, key_id, &frame[0..k], room, expected)
+    print_call(rt, b"seal ", what);
+    seals_lent(rt, t, key_id, &frame[0..k], room, expected)
 }
 
 // Seals a frame of 26 octets with key ID 2 and more room than it needs.
-pub(crate) fn seals(what: &[u8], t: Table, frame: [u8; SIZE], expected: u64) -> Table {
-    seals_part(what, t, 2, frame, 26, SIZE, expected)
+pub(crate) fn seals(
+    rt: HostRuntime,
+    what: &[u8],
+    t: Table,
+    frame: [u8; SIZE],
+    expected: u64,
+) -> Table {
+    seals_part(rt, what, t, 2, frame, 26, SIZE, expected)
 }
 
 // Seals the frame to camera i.
-pub(crate) fn seals_to(t: Table, i: u8, expected: u64) -> Table {
+pub(crate) fn seals_to(rt: HostRuntime, t: Table, i: u8, expected: u64) -> Table {
     let frame = plain(64 | i, BOX);
-    show::text(b"seal to camera ");
-    show::number(i as u64);
-    show::text(b": ");
-    seals_lent(t, 2, &frame[0..26], SIZE, expected)
+    show::text(rt, b"seal to camera ");
+    show::number(rt, i as u64);
+    show::text(rt, b": ");
+    seals_lent(rt, t, 2, &frame[0..26], SIZE, expected)
 }
 
 // Opens a text with this room. The line has begun.
-pub(crate) fn opens_lent(t: Table, text: &[u8], room: usize, expected: u64) -> Table
+pub(crate) fn opens_lent(
+    rt: HostRuntime,
+    t: Table,
+    text: &[u8],
+    room: usize,
+    expected: u64,
+) -> Table
     requires { room ≤ size }
 {
     let mut out = [0xaau8; SIZE];
     let opened = table::open(t, text, &mut out[0..room]);
     let answer = opened.answer;
     let next = opened.table;
-    print_answer(answer);
-    print_opened(out, written(answer));
-    print_changes(t, next);
-    print_rest(out, written(answer));
-    print_expected(expected);
+    print_answer(rt, answer);
+    print_opened(rt, out, written(answer));
+    print_changes(rt, t, next);
+    print_rest(rt, out, written(answer));
+    print_expected(rt, expected);
     next
 }
 
 // Opens the first k octets of a text.
 pub(crate) fn opens_part(
+    rt: HostRuntime,
     what: &[u8],
     t: Table,
     text: [u8; SIZE],
@@ -352,28 +373,41 @@ pub(crate) fn opens_part(
 ) -> Table
     requires { (k ≤ size) × (room ≤ size) }
 {
-    print_call(b"open ", what);
-    opens_lent(t, &text[0..k], room, expected)
+    print_call(rt, b"open ", what);
+    opens_lent(rt, t, &text[0..k], room, expected)
 }
 
 // Opens a text of 42 octets with more room than it needs.
-pub(crate) fn opens(what: &[u8], t: Table, text: [u8; SIZE], expected: u64) -> Table {
-    opens_part(what, t, text, 42, SIZE, expected)
+pub(crate) fn opens(
+    rt: HostRuntime,
+    what: &[u8],
+    t: Table,
+    text: [u8; SIZE],
+    expected: u64,
+) -> Table {
+    opens_part(rt, what, t, text, 42, SIZE, expected)
 }
 
 // Opens what camera i seals under this number, with key n.
-pub(crate) fn opens_from(t: Table, i: u8, n: u8, number: u64, expected: u64) -> Table
+pub(crate) fn opens_from(
+    rt: HostRuntime,
+    t: Table,
+    i: u8,
+    n: u8,
+    number: u64,
+    expected: u64,
+) -> Table
     requires { 0 < number }
 {
     let text = heard(i, n, number);
-    show::text(b"open number ");
-    show::number(number);
-    show::text(b" from camera ");
-    show::number(i as u64);
-    show::text(b" with key ");
-    show::number(n as u64);
-    show::text(b": ");
-    opens_lent(t, &text[0..42], SIZE, expected)
+    show::text(rt, b"open number ");
+    show::number(rt, number);
+    show::text(rt, b" from camera ");
+    show::number(rt, i as u64);
+    show::text(rt, b" with key ");
+    show::number(rt, n as u64);
+    show::text(rt, b": ");
+    opens_lent(rt, t, &text[0..42], SIZE, expected)
 }
 
 // All counts of a table together, modulo 2^32.
@@ -394,8 +428,8 @@ fn sum(t: Table) -> u32 {
 }
 
 // The sum of the counts, beside the number of openings that were answered neither 1, 6 nor 15.
-pub(crate) fn print_sum(t: Table, expected: u64) {
-    show::text(b"counts together: ");
-    show::number(sum(t) as u64);
-    print_expected(expected);
+pub(crate) fn print_sum(rt: HostRuntime, t: Table, expected: u64) {
+    show::text(rt, b"counts together: ");
+    show::number(rt, sum(t) as u64);
+    print_expected(rt, expected);
 }

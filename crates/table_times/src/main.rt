@@ -7,8 +7,8 @@
 ghost use Rattle.std.specs.Prelude.{◌≡◌, ◌+◌, ◌≤◌, length};
 
 use ccmp::{ADDED, LARGE_WINDOW, SMALL_WINDOW};
-use libc::STDIN_FILENO;
 use rules::{Answer, ENTRIES, Pairing, Table, Triple};
+use std::io::Read;
 
 const REQUEST: usize = 10;
 
@@ -20,6 +20,9 @@ const LONG: usize = HEADER + 1500;
 
 // How many octets of the last frame are printed.
 const END: usize = 8;
+
+// The octets that sealed frames have room in.
+const AIR: usize = 65536;
 
 // The camera of the last entry, and its key.
 const LAST: [u8; 6] = *b"\x02cam-\x10";
@@ -162,15 +165,15 @@ fn opens_by_record(window: u8, calls: u64, size: usize, air: &[u8], out: &mut [u
 }
 
 // How many calls were done, and the end of the last frame written.
-fn tell(count: u64, end: &[u8]) {
-    show::number(count);
-    show::text(b" done, the last ends in ");
-    show::octets(end);
-    show::text(b"\n");
+fn tell(rt: HostRuntime, count: u64, end: &[u8]) {
+    show::number(rt, count);
+    show::text(rt, b" done, the last ends in ");
+    show::octets(rt, end);
+    show::text(rt, b"\n");
 }
 
 // The box seals a frame of this size for its last camera.
-fn seals(by_table: bool, size: usize, calls: u64)
+fn seals(rt: HostRuntime, by_table: bool, size: usize, calls: u64)
     requires { size ≤ 1524 }
 {
     let frame = frame_of(*b"\x08\x02\x00\x00\x02cam-\x10\x02box-1\x02box-1\x10\x00");
@@ -178,28 +181,28 @@ fn seals(by_table: bool, size: usize, calls: u64)
     let end = size + ADDED;
     if by_table {
         let count = seals_by_table(calls, &frame[0..size], &mut out);
-        tell(count, &out[end - END..end]);
+        tell(rt, count, &out[end - END..end]);
         return;
     }
     let count = seals_by_record(calls, &frame[0..size], &mut out);
-    tell(count, &out[end - END..end]);
+    tell(rt, count, &out[end - END..end]);
 }
 
 // The box opens frames of this size from its last camera.
-fn opens(by_table: bool, window: u8, size: usize, calls: u64)
+fn opens(rt: HostRuntime, by_table: bool, window: u8, size: usize, calls: u64)
     requires { (24 ≤ size) × (size ≤ 1524) }
 {
     let frame = frame_of(*b"\x08\x01\x00\x00\x02box-1\x02cam-\x10\x02box-1\x10\x00");
-    let mut air = io::large_buffer();
+    let mut air = [0u8; AIR];
     fill(&frame[0..size], &mut air);
     let mut out = [0u8; LONG];
     if by_table {
         let count = opens_by_table(window, calls, size + ADDED, &air, &mut out);
-        tell(count, &out[size - END..size]);
+        tell(rt, count, &out[size - END..size]);
         return;
     }
     let count = opens_by_record(window, calls, size + ADDED, &air, &mut out);
-    tell(count, &out[size - END..size]);
+    tell(rt, count, &out[size - END..size]);
 }
 
 // The size of the windows of a request whose first letter is this.
@@ -233,7 +236,7 @@ fn digit(x: u8) -> u64
     (x - b'0') as u64
 }
 
-fn serve(request: &[u8])
+fn serve(rt: HostRuntime, request: &[u8])
     requires { length request.now ≡ 10 }
 {
     let way = request[0];
@@ -247,18 +250,34 @@ fn serve(request: &[u8])
         + digit(request[7]) * 10
         + digit(request[8]);
     if request[1] == b's' {
-        seals(by_table, size, calls);
+        seals(rt, by_table, size, calls);
     } else {
-        opens(by_table, window, size, calls);
+        opens(rt, by_table, window, size, calls);
     }
 }
 
-fn main() {
+// Reads until the room is full, the input ends or a read fails, and gives how many octets were read.
+fn read_full(rt: HostRuntime, room: &mut [u8]) -> usize
+    ensures { result ≤ length room.new }
+{
+    let mut input = rt.stdin();
+    let mut done = 0;
+    while done < room.len() {
+        let n = input.read(&mut room[done..]).unwrap_or(0);
+        if n == 0 {
+            return done;
+        }
+        done += n;
+    }
+    done
+}
+
+fn main(rt: HostRuntime) {
     let mut text = [0u8; 256];
-    let n = io::read_full(STDIN_FILENO, &mut text);
+    let n = read_full(rt, &mut text);
     let mut at = 0;
     while REQUEST <= n - at {
-        serve(&text[at..at + REQUEST]);
+        serve(rt, &text[at..at + REQUEST]);
         at += REQUEST;
     }
 }

@@ -1,5 +1,4 @@
 use Prim.Native.Nat.{◌≤◌, ◌-◌}
-use borrow.Author.Rules.{rules}
 use Rattle.ccmp_limits.specs.Size.{size}
 use Rattle.ccmp_limits.proofs.filled.Given as goal
 

@@ -1,5 +1,4 @@
 use Prim.Native.Nat.{◌≤◌, ◌-◌}
-use borrow.Author.Rules.{rules}
 use Rattle.ccmp_limits.proofs.zero_windows.Given as goal
 
 -- The loop stays inside the arrays.

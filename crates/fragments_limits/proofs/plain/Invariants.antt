@@ -1,5 +1,4 @@
 use Prim.Native.Nat.{◌≤◌, ◌-◌}
-use borrow.Author.Rules.{rules}
 use Rattle.fragments_limits.specs.Space.{space}
 use Rattle.fragments_limits.proofs.plain.Given as goal
 

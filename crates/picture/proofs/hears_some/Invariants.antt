@@ -1,7 +1,6 @@
 use mathlib.Core.Path.{◌≡◌}
 use Prim.Native.Nat.{◌≤◌, ◌-◌}
 use lib.ListN.{length}
-use borrow.Author.Rules.{rules}
 use Rattle.picture.proofs.hears_some.Given as goal
 
 -- The loop goes up to a fragment that is there, and the room for the picture keeps its length.

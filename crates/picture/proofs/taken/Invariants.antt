@@ -1,5 +1,4 @@
 use Prim.Native.Nat.{◌≤◌, ◌<◌, ◌-◌}
-use borrow.Author.Rules.{rules}
 use Rattle.picture.proofs.taken.Given as goal
 
 -- The loop stays inside the frame, and a remainder by 251 is an octet.

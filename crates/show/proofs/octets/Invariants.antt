@@ -1,6 +1,5 @@
 use Prim.Native.Nat.{◌≤◌, ◌-◌}
 use lib.ListN.{length}
-use borrow.Author.Rules.{rules}
 use Rattle.show.proofs.octets.Given as goal
 
 -- The loop stays inside the slice, and ends at its length.

@@ -1,5 +1,4 @@
 use Prim.Native.Nat.{◌≤◌, ◌-◌}
-use borrow.Author.Rules.{rules}
 use Rattle.sixteen.proofs.adds_sixteen.Given as goal
 
 -- The loop stays inside the cameras, and their numbers are octets.

@@ -1,4 +1,4 @@
-use Rattle.std.proofs.Common.{◌≡◌, ◌-◌, ◌≤◌, length, rules}
+use Rattle.std.proofs.Common.{◌≡◌, ◌-◌, ◌≤◌, length}
 use Rattle.table_times.proofs.opens_by_table.Given as goal
 
 -- The calls that are left fall, each frame lies in air, and the room keeps its length.

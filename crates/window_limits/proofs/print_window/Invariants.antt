@@ -1,5 +1,4 @@
 use Prim.Native.Nat.{◌≤◌, ◌-◌}
-use borrow.Author.Rules.{rules}
 use Rattle.window_limits.proofs.print_window.Given as goal
 
 -- Sixteen marks are printed.

@@ -1,5 +1,4 @@
 use Prim.Native.Nat.{◌≤◌, ◌-◌}
-use borrow.Author.Rules.{rules}
 use Rattle.window_limits.proofs.same_windows.Given as goal
 
 -- The loop stays inside the arrays.

@@ -1,5 +1,4 @@
 use Prim.Native.Nat.{◌≤◌, ◌-◌}
-use borrow.Author.Rules.{rules}
 use Rattle.window_limits.proofs.zeros.Given as goal
 
 -- The greatest stays at most 16.

@@ -1,4 +1,4 @@
-use Rattle.std.proofs.Common.{◌≡◌, ℕ, ◌≤◌, List, length, take, sym, refl, ap, ◌∙◌, arith, take_at, rules}
+use Rattle.std.proofs.Common.{◌≡◌, ℕ, ◌≤◌, List, length, take, sym, ap, ◌∙◌, arith, take_at, rules}
 use lib.Seq.{take-length}
 use Rattle.octets.proofs.Lists.{laid, lay}
 use Rattle.rules.specs.Header.{authenticated, authenticated_length, header_length, header_of}
@@ -10,9 +10,6 @@ use Rattle.ccmp.proofs.header.authenticated_data.Goals as goal
 
 size : (f : List ℕ) (h : Header) → h ≡ header_of f → header_length f ≤ length f → length (authenticated f) ≡ h.«data»
 size f h is whole = authenticated_size f whole ∙ sym (fields_of f h is).data_is
-
-pub loop-i-init : goal.loop-i-init
-loop-i-init c = (search rules, refl)
 
 pub authenticated_octet-requires : goal.authenticated_octet-requires
 unfolding authenticated_length

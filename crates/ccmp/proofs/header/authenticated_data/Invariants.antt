@@ -4,10 +4,10 @@ use Rattle.rules.specs.Limits.{most_data}
 use Rattle.rules.specs.Header.{authenticated}
 use Rattle.ccmp.proofs.header.authenticated_data.Given as goal
 
--- After i turns the first i octets of the array are those of the authenticated data.
 abbrev pub zeros : List ℕ
 zeros = replicate most_data 0
 
+-- After i turns the first i octets of the array are those of the authenticated data.
 abbrev pub invariant-loop-i : goal.invariant-loop-i
 invariant-loop-i l = (l.i ≤ l.header.«data») × (l.data ≡ laid l.i (authenticated l.frame) zeros)
 

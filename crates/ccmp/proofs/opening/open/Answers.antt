@@ -63,12 +63,6 @@ after_opening-next-requires c =
       rw (is, c.number_at-n.ensures) (openable a.r f a.out.now _ c.in-Pass.ensures).taken,
     )
 
-pub overflow_sub-result : goal.overflow_sub-result
-overflow_sub-result c =
-    let a = c.args in
-    let q = openable a.r a.frame.now a.out.now _ c.in-Pass.ensures in
-    omega (arith, q.least, q.whole)
-
 pub returns-else-not-put_opened : goal.returns-else-not-put_opened
 returns-else-not-put_opened c =
     let a = c.args in

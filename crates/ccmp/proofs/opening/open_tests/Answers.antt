@@ -7,13 +7,6 @@ use Rattle.ccmp.proofs.Verdicts.{refuses}
 use Rattle.ccmp.proofs.opening.open_tests.Goals as goal
 
 -- The tests of the record, of the header, and the later ones, one after the other.
-pub returns-then-not-sound_receiver : goal.returns-then-not-sound_receiver
-returns-then-not-sound_receiver c = rw (sym c.sound_receiver.ensures ∙ c.if-not-sound_receiver.true)
-
-pub later_tests-requires : goal.later_tests-requires
-later_tests-requires c =
-    (sym c.sound_receiver.ensures ∙ c.if-not-sound_receiver.false, c.in-Pass.ensures)
-
 pub returns-in-Refuse : goal.returns-in-Refuse
 returns-in-Refuse c =
     let a = c.args in

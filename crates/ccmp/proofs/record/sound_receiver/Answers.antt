@@ -1,17 +1,11 @@
 use Rattle.std.proofs.Common.{sym, ◌∙◌}
 use Rattle.rules.specs.Records.{sound_receiver}
-use Rattle.rules.proofs.Steps.{fits_size}
 use Rattle.ccmp.proofs.record.sound_receiver.Goals as goal
 
 -- The key ID or the size doesn't fit, or the windows decide.
 pub returns-then-not-receiver_fits : goal.returns-then-not-receiver_fits
 unfolding sound_receiver
 returns-then-not-receiver_fits c = rw (sym c.receiver_fits.ensures ∙ c.if-not-receiver_fits.true)
-
-pub sound_windows-requires : goal.sound_windows-requires
-sound_windows-requires c =
-    let r = c.args.r in
-    (fits_size r.key_id r.size (sym c.receiver_fits.ensures ∙ c.if-not-receiver_fits.false)).1
 
 pub returns : goal.returns
 unfolding sound_receiver

@@ -8,8 +8,6 @@ use Rattle.rules.specs.Answers.{outside}
 use Rattle.rules.specs.Sealing.{seal_tests}
 use Rattle.rules.specs.declared.Header.{Header}
 use Rattle.rules.specs.declared.Sender.{Sender}
-use Rattle.rules.proofs.Fields.{header_range}
-use Rattle.rules.proofs.Passing.{inside}
 use Rattle.ccmp.specs.Verdict.{verdict}
 use Rattle.ccmp.specs.Parts.{Heads}
 use Rattle.ccmp.specs.declared.verdict.Verdict.{Verdict}
@@ -49,9 +47,6 @@ module _ (s : Sender) (head body : List ℕ) (h : Header) (room : ℕ) (sound : 
   found_5 e = rw (sound, t.short, t.kind, t.mark, t.cut, body_is ∙ e)
 
   module _ (w : outside least_body most_body (length body) ≡ false) where
-    fits : length head + length body + added < 65536
-    fits = omega (arith, inside least_body most_body (length F - header_length F) (body_is ∙ w), header_range F, size, t.whole)
-
     found_6 : room < length head + length body + added → Found (Refuse 6)
     found_6 l = rw (sound, t.short, t.kind, t.mark, t.cut, body_is ∙ w, lt-ltb room (length F + added) (omega (arith, size)))
 
@@ -74,20 +69,10 @@ returns-then-outside c =
     let a = c.args in
     found_5 a.s a.head.now a.body.now a.header a.room c.requires.0 c.requires.1 (sym c.outside.ensures ∙ c.if-outside.true)
 
-pub overflow_add-head-2 : goal.overflow_add-head-2
-overflow_add-head-2 c =
-    let a = c.args in
-    record { fits = omega (arith, fits a.s a.head.now a.body.now a.header a.room c.requires.0 c.requires.1 (sym c.outside.ensures ∙ c.if-outside.false)) }
-
 pub returns-then-room-head : goal.returns-then-room-head
 returns-then-room-head c =
     let a = c.args in
     found_6 a.s a.head.now a.body.now a.header a.room c.requires.0 c.requires.1 (sym c.outside.ensures ∙ c.if-outside.false) c.if-room-head.true
-
-pub slice_bounds-equal-end : goal.slice_bounds-equal-end
-slice_bounds-equal-end c =
-    let a = c.args in
-    omega (arith, head_exact a.head.now a.body.now a.header c.requires.1, header_range a.head.now)
 
 pub returns-then-not-equal : goal.returns-then-not-equal
 unfolding address2

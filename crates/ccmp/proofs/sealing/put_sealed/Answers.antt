@@ -34,12 +34,6 @@ module _ (f b : List ℕ) (h : Header) (ok : Heads f h) where
       let e : h.«data» - 0 ≡ h.«data» = omega arith in
       ap (λ (k : ℕ). take k d) e ∙ is
 
-pub nonce_of-nonce-requires : goal.nonce_of-nonce-requires
-nonce_of-nonce-requires c = let a = c.args in (headed_is a.head.now a.body.now a.header c.requires.0).long
-
-pub authenticated_data-data-requires : goal.authenticated_data-data-requires
-authenticated_data-data-requires c = let a = c.args in let h = headed_is a.head.now a.body.now a.header c.requires.0 in (h.is, h.whole)
-
 pub slice_bounds-put_text-end : goal.slice_bounds-put_text-end
 slice_bounds-put_text-end c =
     let a = c.args in
@@ -65,9 +59,6 @@ put_text-requires c =
       code_octets_in_bounds =
           omega (arith, length-take (length o - (h + ccmp_octets)) (drop (h + ccmp_octets) o), length-drop (h + ccmp_octets) o, whole, ok.exact, c.requires.2);
     }
-
-pub ccmp_header-ccmp-requires : goal.ccmp_header-ccmp-requires
-ccmp_header-ccmp-requires c = c.requires.1.id_fits
 
 pub put_header-requires : goal.put_header-requires
 put_header-requires c =

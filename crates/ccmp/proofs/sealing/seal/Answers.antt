@@ -35,9 +35,3 @@ returns-in-Pass c =
 
 pub slice_bounds-seal_headed-end : goal.slice_bounds-seal_headed-end
 slice_bounds-seal_headed-end c = ends c.args.frame.now _ c.in-Pass.ensures
-
-pub slice_bounds-seal_headed-count-in-Pass : goal.slice_bounds-seal_headed-count-in-Pass
-slice_bounds-seal_headed-count-in-Pass c = ends c.args.frame.now _ c.in-Pass.ensures
-
-pub slice_bounds-seal_headed-start-in-Pass : goal.slice_bounds-seal_headed-start-in-Pass
-slice_bounds-seal_headed-start-in-Pass c = ends c.args.frame.now _ c.in-Pass.ensures

@@ -22,12 +22,6 @@ decided : (f : List ℕ) (wrong : ℕ) (h : Header) (b : Bool) → least_header 
 decided f wrong h b long kind unlike is e =
     rw (le-ltb (length f) least_header long, kind, unlike, ← (fields_of f h is).length_is, e, is)
 
-pub returns-then-frame-lt-LEAST_HEADER : goal.returns-then-frame-lt-LEAST_HEADER
-returns-then-frame-lt-LEAST_HEADER c = rw (lt-ltb _ _ c.if-frame-lt-LEAST_HEADER.true)
-
-pub returns-then-wrong_kind : goal.returns-then-wrong_kind
-returns-then-wrong_kind c = rw (le-ltb _ _ c.if-frame-lt-LEAST_HEADER.false, sym c.wrong_kind.ensures ∙ c.if-wrong_kind.true)
-
 pub returns-then-frame-wrong : goal.returns-then-frame-wrong
 returns-then-frame-wrong c =
     let a = c.args in

@@ -1,5 +1,4 @@
 use Rattle.std.proofs.Common.{arith}
-use Rattle.rules.proofs.Steps.{size_range}
 use Rattle.ccmp.proofs.Windows.{next_far, next_near, late_below, next_late}
 use Rattle.ccmp.proofs.window.next_window.Goals as goal
 
@@ -13,10 +12,6 @@ overflow_shl-v c = late_below c.args.w c.args.n c.requires.0 c.requires.2 c.if-n
 pub returns-then-n-w : goal.returns-then-n-w
 returns-then-n-w c =
     next_late c.args.w c.args.n c.requires.0 c.requires.2 c.if-n-w.true c.requires.1
-
-pub overflow_shl-v-then-up-w : goal.overflow_shl-v-then-up-w
-overflow_shl-v-then-up-w c =
-    omega (arith, c.if-up-w.true, size_range c.args.w.size c.requires.0)
 
 pub returns-then-up-w : goal.returns-then-up-w
 returns-then-up-w c =

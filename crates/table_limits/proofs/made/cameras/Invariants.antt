@@ -1,4 +1,4 @@
-use Rattle.std.proofs.Common.{◌-◌, ◌≤◌, rules}
+use Rattle.std.proofs.Common.{◌-◌, ◌≤◌}
 use Rattle.table_limits.proofs.made.cameras.Given as goal
 
 -- Each turn adds one camera of those that are left.
