@@ -12,7 +12,7 @@ use Rattle.book.proofs.Held.{cut_append, same_says, same_next}
 use Rattle.book.proofs.Parts.{parts_none, parts_ended}
 use Rattle.book.proofs.Puts.{put_put, put_within}
 use Rattle.book.proofs.Whole.{says_append, after_append, ended_append, left_append, before_any}
-use Rattle.book.proofs.Answered.{put_nothing}
+use Rattle.book.proofs.Answered.{put_nothing, Left}
 
 -- what is taken of a piece up to at₂: what was taken up to `at`, and after it a line with its line feed
 abbrev pub LineTaken : List ℕ → ℕ → ℕ → Type 0
@@ -145,3 +145,13 @@ module _ (b : Book) (p piece out : List ℕ) where
 
   pub all_taken : (taken w : ℕ) → taken ≡ length piece → w ≤ length out → Enough (length piece) taken (length out) w
   all_taken taken w e l = record { within = omega arith; fits = l; whole = λ q. absurd (omega arith); some = λ q r. omega arith }
+
+-- one more line, which a line feed ends and which leaves what the book says of it
+pub next_line : (b : Book) (p piece o line out : List ℕ) (book : Book) (h at w : ℕ) → Here b p piece o line out book h at w
+    → (end : ℕ) → end ≡ at + index_of line_feed (drop at piece) → end ≤ length piece → (end ≡ length piece → ⊥)
+    → (line₂ : List ℕ) (n : ℕ) → length line₂ ≡ most_kept → take n line₂ ≡ cut (take h line ++ take (end - at) (drop at piece))
+    → (book₂ : Book) (w₂ : ℕ) (out₂ : List ℕ) → length out₂ ≡ length out → Left book (take n line₂) w out book₂ w₂ out₂
+    → Here b p piece o line₂ out₂ book₂ 0 (end + 1) w₂
+next_line b p piece o line out book h at w here end place l ne line₂ n z k book₂ w₂ out₂ zo e =
+    more b p piece o line out book h at w here end place line₂ n z k (omega arith) (end + 1)
+    (line_taken b p piece o line out book h at w here end place line₂ n z k) (omega arith) book₂ out₂ w₂ zo e.0 e.1.0 e.1.1

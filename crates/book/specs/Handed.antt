@@ -55,11 +55,11 @@ key_at = length key_word + 1
 abbrev pub key_id_at : ℕ
 key_id_at = key_at + 2 * key_octets + 1
 
-abbrev pub field_own : ℕ
-field_own = key_id_at + 1 + 1
+abbrev pub own_at : ℕ
+own_at = key_id_at + 1 + 1
 
 abbrev pub peer_at : ℕ
-peer_at = field_own + 2 * address_octets + 1
+peer_at = own_at + 2 * address_octets + 1
 
 abbrev pub key_line_octets : ℕ
 key_line_octets = peer_at + 2 * address_octets
@@ -75,7 +75,7 @@ abbrev pub key_id_part : List ℕ → List ℕ
 key_id_part line = take 1 (drop key_id_at line)
 
 abbrev pub own_part : List ℕ → List ℕ
-own_part line = take (2 * address_octets) (drop field_own line)
+own_part line = take (2 * address_octets) (drop own_at line)
 
 abbrev pub peer_part : List ℕ → List ℕ
 peer_part line = take (2 * address_octets) (drop peer_at line)

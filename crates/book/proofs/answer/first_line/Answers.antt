@@ -1,4 +1,4 @@
-use Rattle.std.proofs.Common.{sym, ◌∙◌, add-zero, rules}
+use Rattle.std.proofs.Common.{sym, ◌∙◌, add-zero}
 use borrow.Author.Tests.{not-true, not-false}
 use Rattle.book.proofs.Answered.{put_nothing, first_bad, first_told, first_good}
 use Rattle.book.proofs.Puts.{as_text}
@@ -10,8 +10,10 @@ returns-then-not-k c =
     let a = c.args in
     let n = c.wrapping_add_u64-n in
     let bad = sym c.keys_of-k.ensures.good_value ∙ not-true _ c.if-not-k.true in
-    let says = first_told a.b _ n.result n.ensures bad in
-    (first_bad a.b _ n.result n.ensures bad, as_text a.at a.out-1.now _ _ _ _ says c.put_bad-end.ensures)
+    let says = first_told a.b _ n.result n.ensures.value bad in
+    let p = c.put_bad-end.ensures in
+    let t = as_text a.at a.out.now _ _ _ _ says (p.value, p.out_after) in
+    record { book_value = first_bad a.b _ n.result n.ensures.value bad; end_value = t.0; out_after = t.1 }
 
 pub returns : goal.returns
 returns c =
@@ -19,4 +21,4 @@ returns c =
     let n = c.wrapping_add_u64-n in
     let k = c.keys_of-k in
     let good = not-false _ c.if-not-k.false in
-    let is = sym k.ensures.0 ∙ good in record { book_value = first_good a.b _ n.result n.ensures is k.result (k.ensures.1 good) _ _ c.fresh_sender-sealed.ensures.sender_value c.fresh_receiver-opened.ensures.receiver_value; end_value = rw is (sym (add-zero a.at)); out_after = rw is (sym (put_nothing a.at a.out-1.now)) }
+    let is = sym k.ensures.good_value ∙ good in record { book_value = first_good a.b _ n.result n.ensures.value is k.result (k.ensures.given good) _ _ c.fresh_sender-sealed.ensures.sender_value c.fresh_receiver-opened.ensures.receiver_value; end_value = rw is (sym (add-zero a.at)); out_after = rw is (sym (put_nothing a.at a.out.now)) }

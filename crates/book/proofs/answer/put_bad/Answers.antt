@@ -12,4 +12,5 @@ returns c =
     let a = c.args in
     let n = c.put_decimal-end.ensures in
     let t = c.put_text.ensures in
-    bad_laid a.n a.at a.out-1.now c.requires _ _ n.1 n.0 _ _ t.1 t.0
+    let p = bad_laid a.n a.at a.out.now c.requires _ _ n.out_after n.value _ _ t.out_after t.value in
+    record { value = p.0; out_after = p.1 }

@@ -1,4 +1,4 @@
-use Rattle.std.proofs.Common.{◌≡◌, ◌+◌, ◌/◌, ◌%◌, ◌≤◌, [], ◌∷◌, length, ap, arith, length-append, rules}
+use Rattle.std.proofs.Common.{◌+◌, ◌/◌, ◌%◌, [], ◌∷◌, length, ap, arith, length-append}
 use Rattle.book.specs.Decimal.{decimal}
 use Rattle.book.proofs.Decimals.{length_decimal, decimal_small, decimal_more}
 use Rattle.book.proofs.decimal.places.Goals as goal

@@ -1,6 +1,5 @@
-use Rattle.std.proofs.Common.{◌≡◌, ◌+◌, ◌/◌, ◌%◌, ◌≤◌, [], ◌∷◌, length, ap, arith, length-append, rules}
+use Rattle.std.proofs.Common.{◌≡◌, ◌+◌, ◌≤◌, length}
 use Rattle.book.specs.Decimal.{decimal}
-use Rattle.book.proofs.Decimals.{length_decimal, decimal_small, decimal_more}
 use Rattle.book.proofs.decimal.places.Given as goal
 
 -- The count and the digits of what is left come to one more than all digits.

@@ -1,4 +1,4 @@
-use Rattle.std.proofs.Common.{◌≡◌, ◌+◌, ◌-◌, ◌/◌, ◌%◌, ◌≤◌, [], ◌∷◌, length, sym, ap, ◌∙◌, arith, length-append, length-set, rules}
+use Rattle.std.proofs.Common.{◌≡◌, ◌+◌, ◌-◌, ◌/◌, ◌%◌, [], ◌∷◌, length, sym, ap, ◌∙◌, arith, length-append, length-set}
 use Rattle.book.specs.Decimal.{decimal}
 use Rattle.book.specs.Put.{put}
 use Rattle.book.proofs.Decimals.{length_decimal, decimal_small, decimal_more}

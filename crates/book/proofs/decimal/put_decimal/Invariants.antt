@@ -1,8 +1,6 @@
-use Rattle.std.proofs.Common.{◌≡◌, ◌+◌, ◌-◌, ◌/◌, ◌%◌, ◌≤◌, [], ◌∷◌, length, sym, ap, ◌∙◌, arith, length-append, length-set, rules}
+use Rattle.std.proofs.Common.{◌≡◌, ◌+◌, ◌≤◌, length}
 use Rattle.book.specs.Decimal.{decimal}
 use Rattle.book.specs.Put.{put}
-use Rattle.book.proofs.Decimals.{length_decimal, decimal_small, decimal_more}
-use Rattle.book.proofs.Puts.{stored, put_last}
 use Rattle.book.proofs.decimal.put_decimal.Given as goal
 
 -- Writing the digits of what is left of the number into the room so far gives the same after each turn.

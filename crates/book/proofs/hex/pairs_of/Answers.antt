@@ -1,5 +1,5 @@
-use Rattle.std.proofs.Common.{◌≡◌, ℕ, ◌+◌, ◌-◌, ◌*◌, ◌≤◌, length, sym, refl, ◌∙◌, ap₂, arith, rules}
-use Rattle.octets.proofs.Lists.{laid, lay, laid_all}
+use Rattle.std.proofs.Common.{◌≡◌, ℕ, ◌+◌, ◌*◌, length, sym, refl, ◌∙◌, ap₂, arith}
+use Rattle.octets.proofs.Lists.{lay, laid_all}
 use Rattle.book.specs.Handed.{block, pairs}
 use Rattle.book.proofs.Blocks.{length_pairs, pair_at}
 use Rattle.book.proofs.hex.pairs_of.Goals as goal

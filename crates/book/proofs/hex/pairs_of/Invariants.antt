@@ -1,7 +1,6 @@
-use Rattle.std.proofs.Common.{◌≡◌, ℕ, ◌+◌, ◌-◌, ◌*◌, ◌≤◌, length, sym, refl, ◌∙◌, ap₂, arith, rules}
-use Rattle.octets.proofs.Lists.{laid, lay, laid_all}
+use Rattle.std.proofs.Common.{◌≡◌, ◌-◌, ◌≤◌}
+use Rattle.octets.proofs.Lists.{laid}
 use Rattle.book.specs.Handed.{block, pairs}
-use Rattle.book.proofs.Blocks.{length_pairs, pair_at}
 use Rattle.book.proofs.hex.pairs_of.Given as goal
 
 -- After i turns the first i pairs are laid.

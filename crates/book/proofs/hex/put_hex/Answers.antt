@@ -1,5 +1,5 @@
-use Rattle.std.proofs.Common.{◌≡◌, ◌+◌, ◌-◌, ◌*◌, ◌≤◌, length, drop, ◌∙◌, arith, length-set, rules}
-use lib.Seq.{sets, drop-length}
+use Rattle.std.proofs.Common.{◌≡◌, length, ◌∙◌, arith, length-set}
+use lib.Seq.{drop-length}
 use Rattle.book.specs.Hex.{hex_of}
 use Rattle.book.proofs.Hexadecimals.{length_hex}
 use Rattle.book.proofs.Puts.{stored}
@@ -7,7 +7,7 @@ use Rattle.book.proofs.Turns.{put_turn}
 use Rattle.book.proofs.hex.put_hex.Goals as goal
 
 pub letter_of-requires : goal.letter_of-requires
-letter_of-requires c = omega (arith, c.shared_slice_known-in-loop-i-1.given c.loop-i.i)
+letter_of-requires c = omega (arith, c.type_inv.octets c.loop-i.i)
 
 pub bounds-out-end-in-loop-i : goal.bounds-out-end-in-loop-i
 bounds-out-end-in-loop-i c = simp length-set (omega arith)
@@ -28,4 +28,4 @@ returns c =
     let l = c.loop-i in
     let a = c.args in
     let e : l.i ≡ length a.octets.now = omega arith in
- record { value = omega arith; out_after = rw (e, drop-length) at l.invariant.3 ∙ stored a.at (hex_of a.octets.now) a.out.now (omega (arith, length_hex a.octets.now)) }
+    record { value = omega arith; out_after = rw (e, drop-length) at l.invariant.3 ∙ stored a.at (hex_of a.octets.now) a.out.now (omega (arith, length_hex a.octets.now)) }

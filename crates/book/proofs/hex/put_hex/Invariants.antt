@@ -1,9 +1,6 @@
-use Rattle.std.proofs.Common.{◌≡◌, ◌+◌, ◌-◌, ◌*◌, ◌≤◌, length, drop, ◌∙◌, arith, length-set, rules}
-use lib.Seq.{sets, drop-length}
+use Rattle.std.proofs.Common.{◌≡◌, ◌+◌, ◌-◌, ◌*◌, ◌≤◌, length, drop}
+use lib.Seq.{sets}
 use Rattle.book.specs.Hex.{hex_of}
-use Rattle.book.proofs.Hexadecimals.{length_hex}
-use Rattle.book.proofs.Puts.{stored}
-use Rattle.book.proofs.Turns.{put_turn}
 use Rattle.book.proofs.hex.put_hex.Given as goal
 
 -- Storing the digits that are left into the room so far gives the same after each turn.

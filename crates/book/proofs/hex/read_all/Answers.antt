@@ -1,6 +1,5 @@
-use Rattle.std.proofs.Common.{◌≡◌, ◌-◌, ◌*◌, ◌≤◌, length, take, drop, refl, ◌∙◌, zero-le, arith, length-set, rules}
-use Rattle.book.specs.Hex.{octets_of}
-use Rattle.book.proofs.Turns.{so_far, read_turn, read_none, filled_all}
+use Rattle.std.proofs.Common.{refl, ◌∙◌, zero-le, arith, length-set}
+use Rattle.book.proofs.Turns.{read_turn, read_none, filled_all}
 use Rattle.book.proofs.hex.read_all.Goals as goal
 
 pub loop-i-init : goal.loop-i-init
@@ -21,4 +20,5 @@ loop-i-preserved c =
 pub returns : goal.returns
 returns c =
     let l = c.loop-i in
-    filled_all c.args.digits.now l.out l.i l.good (omega arith) (omega arith) l.invariant.2
+    let f = filled_all c.args.digits.now l.out l.i l.good (omega arith) (omega arith) l.invariant.2 in
+    record { value = f.0; out_after = f.1 }

@@ -1,6 +1,6 @@
-use Rattle.std.proofs.Common.{◌≡◌, ◌-◌, ◌*◌, ◌≤◌, length, take, drop, refl, ◌∙◌, zero-le, arith, length-set, rules}
+use Rattle.std.proofs.Common.{◌≡◌, ◌-◌, ◌*◌, ◌≤◌, length, take, drop}
 use Rattle.book.specs.Hex.{octets_of}
-use Rattle.book.proofs.Turns.{so_far, read_turn, read_none, filled_all}
+use Rattle.book.proofs.Turns.{so_far}
 use Rattle.book.proofs.hex.read_all.Given as goal
 
 -- The octets so far, before those that the digits left write, are what all the digits write, as long as each was a digit.

@@ -1,8 +1,7 @@
-use Rattle.std.proofs.Common.{◌≡◌, ℕ, ◌+◌, ◌-◌, ◌*◌, ◌/◌, ◌%◌, ◌<◌, ◌≤◌, List, length, get_or, take, drop, refl, ap, ◌∙◌, zero-le, arith, length-set, rules}
-use Rattle.book.specs.Hex.{digit, octets_of}
+use Rattle.std.proofs.Common.{◌≡◌, ◌-◌, ◌*◌, ◌≤◌, length, take, drop}
+use Rattle.book.specs.Hex.{octets_of}
 use Rattle.book.specs.Handed.{block}
-use Rattle.book.proofs.Turns.{so_far, read_turn, read_none, filled_all}
-use Rattle.book.proofs.Blocks.{pair_digits}
+use Rattle.book.proofs.Turns.{so_far}
 use Rattle.book.proofs.hex.read_block.Given as goal
 
 -- As in read_all, with each two digits from their pair.

@@ -1,8 +1,8 @@
 use Rattle.std.proofs.Common.{◌≡◌, ℕ, ◌+◌, ◌-◌, ◌*◌, ◌/◌, ◌≤◌, Bool, cond, ◌&&◌, List, ◌++◌, length, take, drop, sym, refl, ◌∙◌, zero-le, arith, rules}
-use mathlib.Core.Option.{none, some}
+use Rattle.std.proofs.Math.Option.{none, some}
 use Rattle.book.specs.Hex.{octets_of}
 use Rattle.book.specs.Handed.{block}
-use Rattle.book.proofs.Turns.{so_far, read_none, read_all, read_odd}
+use Rattle.book.proofs.Turns.{Filled, so_far, read_none, read_all, read_odd}
 use Rattle.book.proofs.Blocks.{part_turn}
 use Rattle.book.proofs.hex.read_hex.Goals as goal
 
@@ -23,31 +23,28 @@ loop-i-preserved c =
       l.invariant.1,
       search rules,
       l.invariant.3
-          ∙ part_turn digits l.out-1 l.i (l.i + block) (2 * (l.i + block) - 2 * l.i) l.good (omega arith) (omega arith) (omega arith) (omega arith) r.new.1.0 _ r.result (search rules) (r.ensures.0, r.ensures.1),
+          ∙ part_turn digits l.out l.i (l.i + block) (2 * (l.i + block) - 2 * l.i) l.good (omega arith) (omega arith) (omega arith) (omega arith) r.new.out _ r.result (search rules) (r.ensures.value, r.ensures.out_after),
     )
 
 -- where what is left has been read
-module _ (c : goal.After-slice_known-2-1) where
-  abbrev top : goal.At-loop-i
-  top = c
-  abbrev digits : List ℕ
-  digits = top.args.digits.now
-  abbrev n : ℕ
-  n = length digits / 2
-  abbrev good : Bool
-  good = top.loop-i.good && c.read_all-read.result
-  abbrev out : List ℕ
-  out = take top.loop-i.i top.loop-i.out-1 ++ (c.read_all-read.new.out ++ drop (n - top.loop-i.i) (drop top.loop-i.i top.loop-i.out-1))
-  read : octets_of digits ≡ cond good (some (take n out)) none
-  read =
-      let l = top.loop-i in
-      let r = c.read_all-read in
-      l.invariant.3
-      ∙ part_turn digits l.out-1 l.i n (length digits - 2 * l.i) l.good (omega arith) (omega arith) (omega arith) (omega arith) r.new.1.0 _ r.result (search rules) (r.ensures.0, r.ensures.1)
-      ∙ read_all digits (take n out) n good l.invariant.1
+last : (s out more rest : List ℕ) (i n m : ℕ) (good g : Bool) → length s ≡ 2 * n → i ≤ n → i ≤ length out → m ≡ 2 * (n - i) → length more ≡ n - i
+    → octets_of s ≡ so_far good (take i out) (drop (2 * i) s) → Filled (take m (drop (2 * i) s)) more g
+    → octets_of s ≡ cond (good && g) (some (take n (take i out ++ (more ++ rest)))) none
+last s out more rest i n m good g e l k z w h f =
+    h ∙ part_turn s out i n m good l (omega arith) k z more rest g w f ∙ read_all s (take n (take i out ++ (more ++ rest))) n (good && g) e
 
 pub returns-then-good-read : goal.returns-then-good-read
-returns-then-good-read c = record { out_after = sym (rw c.if-good-read.true at (read c)); result_in_bounds = search rules }
+returns-then-good-read c =
+    let l = c.loop-i in
+    let r = c.read_all-read in
+    let s = c.args.digits.now in
+    let e = last s l.out r.new.out (drop (length s / 2 - l.i) (drop l.i l.out)) l.i (length s / 2) (length s - 2 * l.i) l.good r.result l.invariant.1 (omega arith) (omega arith) (omega arith) (search rules) l.invariant.3 (r.ensures.value, r.ensures.out_after) in
+    record { out_after = sym (rw c.if-good-read.true at e); result_in_bounds = search rules }
 
 pub returns-else-good-read : goal.returns-else-good-read
-returns-else-good-read c = record { out_after = sym (rw c.if-good-read.false at (read c)); result_in_bounds = zero-le }
+returns-else-good-read c =
+    let l = c.loop-i in
+    let r = c.read_all-read in
+    let s = c.args.digits.now in
+    let e = last s l.out r.new.out (drop (length s / 2 - l.i) (drop l.i l.out)) l.i (length s / 2) (length s - 2 * l.i) l.good r.result l.invariant.1 (omega arith) (omega arith) (omega arith) (search rules) l.invariant.3 (r.ensures.value, r.ensures.out_after) in
+    record { out_after = sym (rw c.if-good-read.false at e); result_in_bounds = zero-le }

@@ -1,9 +1,6 @@
-use Rattle.std.proofs.Common.{◌≡◌, ℕ, ◌+◌, ◌-◌, ◌*◌, ◌/◌, ◌≤◌, Bool, cond, ◌&&◌, List, ◌++◌, length, take, drop, sym, refl, ◌∙◌, zero-le, arith, rules}
-use mathlib.Core.Option.{none, some}
+use Rattle.std.proofs.Common.{◌≡◌, ◌-◌, ◌*◌, ◌≤◌, length, take, drop}
 use Rattle.book.specs.Hex.{octets_of}
-use Rattle.book.specs.Handed.{block}
-use Rattle.book.proofs.Turns.{so_far, read_none, read_all, read_odd}
-use Rattle.book.proofs.Blocks.{part_turn}
+use Rattle.book.proofs.Turns.{so_far}
 use Rattle.book.proofs.hex.read_hex.Given as goal
 
 -- As in read_all, with a part of the digits in each turn, and what is left of them at the end.

@@ -7,4 +7,4 @@ pub returns : goal.returns
 returns c =
     let a = c.args in
     let f = c.feed_lines-lines.ensures in
- record { gave = rw (kept_held a.r.line-1 a.r.length c.kept_of-kept.result (search rules) c.kept_of-kept.ensures.1) at f.0; enough = f.1 }
+    record { gave = rw (kept_held a.r.line a.r.length c.kept_of-kept.result (search rules) c.kept_of-kept.ensures.1) at f.gave; enough = f.enough }

@@ -1,4 +1,4 @@
-use Rattle.std.proofs.Common.{refl, rules}
+use Rattle.std.proofs.Common.{refl}
 use Rattle.book.proofs.pieces.new_reader.Goals as goal
 
 -- Both records are new ones.

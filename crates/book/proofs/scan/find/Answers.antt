@@ -1,4 +1,4 @@
-use Rattle.std.proofs.Common.{◌≡◌, ℕ, ◌+◌, ◌-◌, ◌≤◌, List, length, drop, sym, refl, ap, ◌∙◌, arith, rules}
+use Rattle.std.proofs.Common.{◌≡◌, ℕ, ◌+◌, ◌≤◌, List, length, drop, sym, refl, ap, ◌∙◌, arith}
 use Rattle.octets.specs.Search.{slice, index_of}
 use Rattle.book.proofs.Parts.{whole_slice}
 use Rattle.book.proofs.Searches.{here, later, lacking}
@@ -14,7 +14,7 @@ returns-then-s-from-lt-NEAR c = let a = c.args in record { value = to_end a.x a.
 pub returns-then-first-near : goal.returns-then-first-near
 returns-then-first-near c =
     let a = c.args in
- record { value = here a.x a.s.now a.from _ (omega arith) (omega arith) _ c.find-first.ensures.value c.if-first-near.true; upper_bound = omega (arith, c.if-first-near.true) }
+    record { value = here a.x a.s.now a.from _ (omega arith) (omega arith) _ c.find-first.ensures.value c.if-first-near.true; upper_bound = omega (arith, c.if-first-near.true) }
 
 pub loop-at-init : goal.loop-at-init
 loop-at-init c =
@@ -31,4 +31,4 @@ loop-at-preserved c =
 pub returns : goal.returns
 returns c =
     let a = c.args in
- record { value = to_end a.x a.s.now c.loop-at.at _ _ c.find-2.ensures.value c.loop-at.invariant.1; upper_bound = c.find-2.ensures.upper_bound }
+    record { value = to_end a.x a.s.now c.loop-at.at _ _ c.find-2.ensures.value c.loop-at.invariant.1; upper_bound = c.find-2.ensures.upper_bound }

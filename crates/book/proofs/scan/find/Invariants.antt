@@ -1,7 +1,5 @@
-use Rattle.std.proofs.Common.{◌≡◌, ℕ, ◌+◌, ◌-◌, ◌≤◌, List, length, drop, sym, refl, ap, ◌∙◌, arith, rules}
-use Rattle.octets.specs.Search.{slice, index_of}
-use Rattle.book.proofs.Parts.{whole_slice}
-use Rattle.book.proofs.Searches.{here, later, lacking}
+use Rattle.std.proofs.Common.{◌≡◌, ◌+◌, ◌-◌, ◌≤◌, length, drop}
+use Rattle.octets.specs.Search.{index_of}
 use Rattle.book.proofs.scan.find.Given as goal
 
 -- Up to `at` there is no x, so that the first one from there on is the first of all.

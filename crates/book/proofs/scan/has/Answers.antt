@@ -1,4 +1,4 @@
-use Rattle.std.proofs.Common.{◌≡◌, ◌-◌, ◌≤◌, Bool, ◌||◌, eqb, length, get_or, take, sym, refl, ap, ◌∙◌, arith, take_all, rules}
+use Rattle.std.proofs.Common.{Bool, ◌||◌, eqb, get_or, sym, refl, ap, ◌∙◌, arith, take_all}
 use Rattle.octets.specs.Search.{index_of}
 use Rattle.book.proofs.Searches.{among, among_turn}
 use Rattle.book.proofs.scan.has.Goals as goal

@@ -1,6 +1,5 @@
-use Rattle.std.proofs.Common.{◌≡◌, ◌-◌, ◌≤◌, Bool, ◌||◌, eqb, length, get_or, take, sym, refl, ap, ◌∙◌, arith, take_all, rules}
-use Rattle.octets.specs.Search.{index_of}
-use Rattle.book.proofs.Searches.{among, among_turn}
+use Rattle.std.proofs.Common.{◌≡◌, ◌-◌, ◌≤◌, length, take}
+use Rattle.book.proofs.Searches.{among}
 use Rattle.book.proofs.scan.has.Given as goal
 
 -- After i turns it is whether x is among the first i octets.
