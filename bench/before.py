@@ -3,7 +3,7 @@
 program `table_times` of each, all ways in turn, the least of some rounds each, less a run of one call, which has the start and what is
 sealed beforehand. Ends with status 1 where the record's own call takes over 1.03 times as long as in the other build.
 
-  rt check table_times && bench/before.py PROGRAM [ROUNDS]        PROGRAM is the other build's; 15 rounds where none is given
+  tools/program table_times && bench/before.py PROGRAM [ROUNDS]        PROGRAM is the other build's; 15 rounds where none is given
 """
 import pathlib
 import subprocess

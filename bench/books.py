@@ -94,7 +94,7 @@ def compare(work, book, ours, theirs):
 
 
 if not framebook.exists():
-    sys.exit(f"{framebook} isn't there: `rt check framebook` makes it")
+    sys.exit(f"{framebook} isn't there: `tools/program framebook` makes it")
 subprocess.run(["cargo", "build", "--release", "--quiet", "--manifest-path", root / "second/Cargo.toml"], check=True)
 print(f"{'work':<26} {'framebook':>12} {'second':>12} {'ratio':>6}")
 with tempfile.TemporaryDirectory() as folder:

@@ -1,4 +1,4 @@
-// Links the proved code, which `rt staticlib bench` and `rt staticlib kondrivai` build.
+// Links the proved code, which `tools/staticlib bench` and `tools/staticlib kondrivai` build.
 fn main() {
     let root = std::path::Path::new(env!("CARGO_MANIFEST_DIR")).parent().unwrap();
     let libraries = root.join("target/staticlib");

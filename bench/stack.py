@@ -6,7 +6,7 @@ bench's function around it, which holds the tables passed and handed back. What 
 not counted. bench/src/bin/stack.rs measures what calls do take; what the frame book takes shows here, as the least limit of the stack under which it
 still answers, with the platform's start in it.
 
-  rt staticlib bench && rt staticlib kondrivai && rt check framebook && bench/stack.py        needs objdump and setarch
+  tools/staticlib bench && tools/staticlib kondrivai && tools/program framebook && bench/stack.py        needs objdump and setarch
 """
 import pathlib
 import re

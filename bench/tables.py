@@ -3,7 +3,7 @@
 frames: the program `table_times`, all ways in turn, the least of some rounds each, less a run of one call, which has the start and what
 is sealed beforehand. Ends with status 1 where the table takes over 0.7 µs more.
 
-  rt check table_times && bench/tables.py [ROUNDS]        5 rounds where none is given
+  tools/program table_times && bench/tables.py [ROUNDS]        5 rounds where none is given
 """
 import itertools
 import pathlib
@@ -47,7 +47,7 @@ def all_runs():
 
 
 if not program.exists():
-    sys.exit(f"{program} isn't there: `rt check table_times` makes it")
+    sys.exit(f"{program} isn't there: `tools/program table_times` makes it")
 times = [all_runs() for _ in range(rounds)]
 least = {work: min(each[work] for each in times) for work in times[0]}
 over = False

@@ -197,7 +197,7 @@ def cut(book, source):
 
 
 if not framebook.exists():
-    sys.exit(f"{framebook} isn't there: `rt check framebook` makes it")
+    sys.exit(f"{framebook} isn't there: `tools/program framebook` makes it")
 subprocess.run(["cargo", "build", "--release", "--quiet", "--manifest-path", root / "second/Cargo.toml"], check=True)
 second, generate = release / "second", release / "generate"
 

@@ -66,7 +66,7 @@ def compare(book, ours, theirs):
 
 
 if not framebook.exists():
-    sys.exit(f"{framebook} isn't there: `rt check framebook` makes it")
+    sys.exit(f"{framebook} isn't there: `tools/program framebook` makes it")
 subprocess.run(["cargo", "build", "--release", "--quiet", "--manifest-path", root / "second/Cargo.toml"], check=True)
 with tempfile.TemporaryDirectory() as folder:
     plain, sealed, air, due, ours, theirs = (pathlib.Path(folder, name) for name in ("plain", "sealed", "air", "due", "ours", "theirs"))

@@ -1,6 +1,6 @@
 #!/usr/bin/env python3
 """The script ./framebook: files and standard input, its options, and what it says where it can't run. Needs the program, which
-`rt check framebook` makes.
+`tools/program framebook` makes.
 """
 import os
 import pathlib

@@ -17,7 +17,7 @@ struct Program {
 }
 
 static RUNNING: LazyLock<Mutex<Program>> = LazyLock::new(|| {
-    let mut child = Command::new(PROGRAM).stdin(Stdio::piped()).stdout(Stdio::piped()).spawn().expect("target/bin/table_calls: rt check table_calls makes it");
+    let mut child = Command::new(PROGRAM).stdin(Stdio::piped()).stdout(Stdio::piped()).spawn().expect("target/bin/table_calls: tools/program table_calls makes it");
     let requests = BufWriter::new(child.stdin.take().expect("piped"));
     let answers = child.stdout.take().expect("piped");
     Mutex::new(Program { _child: child, requests, answers })
