@@ -50,8 +50,7 @@ fn receiver_of(
     r
 }
 
-#[unsafe(no_mangle)]
-pub extern "C" fn bench_fresh_sender(
+pub fn bench_fresh_sender(
     key: &mut [u8; 16],
     key_id: &mut u8,
     address: &mut [u8; 6],
@@ -74,8 +73,7 @@ pub extern "C" fn bench_fresh_sender(
     *last = s.last;
 }
 
-#[unsafe(no_mangle)]
-pub extern "C" fn bench_ccmp_seal(
+pub fn bench_ccmp_seal(
     key: &mut [u8; 16],
     key_id: &mut u8,
     address: &mut [u8; 6],
@@ -104,8 +102,7 @@ pub extern "C" fn bench_ccmp_seal(
     *last = s.last;
 }
 
-#[unsafe(no_mangle)]
-pub extern "C" fn bench_fresh_receiver(
+pub fn bench_fresh_receiver(
     key: &mut [u8; 16],
     key_id: &mut u8,
     peer: &mut [u8; 6],
@@ -137,8 +134,7 @@ pub extern "C" fn bench_fresh_receiver(
     *counts = [c.format_errors, c.replays, c.decrypt_errors, c.opened];
 }
 
-#[unsafe(no_mangle)]
-pub extern "C" fn bench_ccmp_open(
+pub fn bench_ccmp_open(
     key: &mut [u8; 16],
     key_id: &mut u8,
     peer: &mut [u8; 6],

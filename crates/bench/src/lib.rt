@@ -1,4 +1,4 @@
-// What the timings and the comparisons with outside programs call: the library's functions, exported to C.
+// What the timings and the comparisons with outside programs call: the library's functions, which bench_c exports to C.
 #![tactic(auto)]
 
 ghost use Rattle.std.specs.Prelude.{◌≡◌};
@@ -11,27 +11,24 @@ ghost use Rattle.bench.specs.Numbers.{number};
 
 use ccm::Outcome;
 
-mod buffers; // buffers.rt: sealing and opening on a record in a buffer
-mod frames; // frames.rt: fresh records, sealing and opening
-mod pictures; // pictures.rt: splitting and joining
-mod tables; // tables.rt: sealing and opening through a table
+pub mod buffers; // buffers.rt: sealing and opening on a record in a buffer
+pub mod frames; // frames.rt: fresh records, sealing and opening
+pub mod pictures; // pictures.rt: splitting and joining
+pub mod tables; // tables.rt: sealing and opening through a table
 
-#[unsafe(no_mangle)]
-pub extern "C" fn bench_aes_fill(t: &mut [u64; 256])
+pub fn bench_aes_fill(t: &mut [u64; 256])
     ensures { Products t.new }
 {
     aes::fill_products(t);
 }
 
-#[unsafe(no_mangle)]
-pub extern "C" fn bench_aes_expand(t: &[u64; 256], key: &[u8; 16], w: &mut [u8; 176])
+pub fn bench_aes_expand(t: &[u64; 256], key: &[u8; 16], w: &mut [u8; 176])
     ensures { Products t.now → w.new ≡ key_expansion 4 10 key.now }
 {
     *w = aes::expand(t, *key);
 }
 
-#[unsafe(no_mangle)]
-pub extern "C" fn bench_aes_encrypt(t: &[u64; 256], w: &[u8; 176], block: &mut [u8; 16])
+pub fn bench_aes_encrypt(t: &[u64; 256], w: &[u8; 176], block: &mut [u8; 16])
     ensures { Products t.now → block.new ≡ cipher 10 w.now block.old }
 {
     let b = *block;
@@ -47,8 +44,7 @@ fn numbered(o: Outcome) -> u64
     }
 }
 
-#[unsafe(no_mangle)]
-pub extern "C" fn bench_ccm_seal(
+pub fn bench_ccm_seal(
     key: &[u8; 16],
     nonce: &[u8; 13],
     aad: &[u8],
@@ -61,8 +57,7 @@ pub extern "C" fn bench_ccm_seal(
     numbered(ccm::seal(*key, *nonce, aad, body, out))
 }
 
-#[unsafe(no_mangle)]
-pub extern "C" fn bench_ccm_open(
+pub fn bench_ccm_open(
     key: &[u8; 16],
     nonce: &[u8; 13],
     aad: &[u8],

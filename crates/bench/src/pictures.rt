@@ -7,8 +7,7 @@ ghost use Rattle.bench.specs.Numbers.{sender, joiner, parts};
 use crate::frames::{parts_of, sender_of};
 use rules::{Fragment, Joiner, MOST_MESSAGE};
 
-#[unsafe(no_mangle)]
-pub extern "C" fn bench_split(
+pub fn bench_split(
     key: &mut [u8; 16],
     key_id: &mut u8,
     address: &mut [u8; 6],
@@ -59,8 +58,7 @@ fn joiner_of(
     Joiner { held, length, last }
 }
 
-#[unsafe(no_mangle)]
-pub extern "C" fn bench_join(
+pub fn bench_join(
     held: &mut [u8; MOST_MESSAGE],
     length: &mut usize,
     address: &mut [u8; 6],

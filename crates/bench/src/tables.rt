@@ -23,8 +23,7 @@ fn one_camera(own: [u8; 6], peer: [u8; 6], key_id: u8, key: [u8; 16]) -> Table
     t
 }
 
-#[unsafe(no_mangle)]
-pub extern "C" fn bench_table_add(
+pub fn bench_table_add(
     own: &[u8; 6],
     peer: &[u8; 6],
     key_id: u8,
@@ -52,8 +51,7 @@ pub extern "C" fn bench_table_add(
     *answer = parts_of(a);
 }
 
-#[unsafe(no_mangle)]
-pub extern "C" fn bench_table_seal(
+pub fn bench_table_seal(
     own: &[u8; 6],
     peer: &[u8; 6],
     key_id: u8,
@@ -75,8 +73,7 @@ pub extern "C" fn bench_table_seal(
     *answer = parts_of(a);
 }
 
-#[unsafe(no_mangle)]
-pub extern "C" fn bench_table_open(
+pub fn bench_table_open(
     own: &[u8; 6],
     peer: &[u8; 6],
     key_id: u8,

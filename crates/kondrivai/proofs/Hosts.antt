@@ -10,7 +10,7 @@ use lib.Dec.{eqb, leb}
 use Rattle.octets.specs.Octets.{Octets}
 use Rattle.rules.specs.Limits.{most_key_id, count_limit}
 use Rattle.rules.specs.Records.{sound_sender, receiver_fits, sound_receiver, new_sender, new_receiver, fresh_answer, fresh_sender, receiver_answer, fresh_receiver, sender_next, count_of, counted, receiver_next}
-use Rattle.rules.specs.Answers.{answer_number, written}
+use Rattle.rules.specs.Answers.{answer_number}
 use Rattle.rules.specs.Sealing.{seal_answer, seal_next}
 use Rattle.rules.specs.Opening.{open_answer, open_next}
 use Rattle.rules.specs.Calls.{Call, OctetFrames, open_run}

@@ -1,5 +1,5 @@
-// What a C host links: sealing and opening on a record that lies in a buffer, and the making of such records. docs/LAYOUT.md has the layout,
-// include/kondrivai.h the calls as C sees them. A slice passes as a pointer and a length.
+// Sealing and opening on a record that lies in a buffer, and the making of such records. docs/LAYOUT.md has the layout. A C host links these as
+// the crate kondrivai_c exports them.
 #![tactic(auto)]
 
 ghost use Rattle.std.specs.Prelude.{◌≡◌};
@@ -31,8 +31,7 @@ fn can_hold(b: &[u8], size: usize, key: &[u8]) -> bool
 }
 
 // Makes a sender that has sealed nothing.
-#[unsafe(no_mangle)]
-pub extern "C" fn kondrivai_fresh_sender(
+pub fn kondrivai_fresh_sender(
     record: &mut [u8],
     key: &[u8],
     key_id: u8,
@@ -56,8 +55,7 @@ pub extern "C" fn kondrivai_fresh_sender(
 }
 
 // Makes a receiver that has opened nothing, with windows of this size.
-#[unsafe(no_mangle)]
-pub extern "C" fn kondrivai_fresh_receiver(
+pub fn kondrivai_fresh_receiver(
     record: &mut [u8],
     key: &[u8],
     key_id: u8,
@@ -82,8 +80,7 @@ pub extern "C" fn kondrivai_fresh_receiver(
 }
 
 // Seals a plain frame into the front of out, by the sender in record.
-#[unsafe(no_mangle)]
-pub extern "C" fn kondrivai_seal(record: &mut [u8], frame: &[u8], out: &mut [u8]) -> u32
+pub fn kondrivai_seal(record: &mut [u8], frame: &[u8], out: &mut [u8]) -> u32
     ensures value { result ≡ seal_number «record».old frame.now out.old }
     ensures record_after { «record».new ≡ seal_buffer «record».old frame.now out.old }
     ensures out_after { out.new ≡ seal_room «record».old frame.now out.old }
@@ -99,8 +96,7 @@ pub extern "C" fn kondrivai_seal(record: &mut [u8], frame: &[u8], out: &mut [u8]
 }
 
 // Opens a sealed frame into the front of out, by the receiver in record.
-#[unsafe(no_mangle)]
-pub extern "C" fn kondrivai_open(record: &mut [u8], frame: &[u8], out: &mut [u8]) -> u32
+pub fn kondrivai_open(record: &mut [u8], frame: &[u8], out: &mut [u8]) -> u32
     ensures value { result ≡ open_number «record».old frame.now out.old }
     ensures record_after { «record».new ≡ open_buffer «record».old frame.now out.old }
     ensures out_after { out.new ≡ open_room «record».old frame.now out.old }

@@ -1,5 +1,4 @@
 use mathlib.Core.Path.{ap, ◌∙◌}
-use borrow.Author.Rules.{rules}
 use Rattle.bench.specs.Numbers.{number}
 use Rattle.bench.proofs.bench_ccm_seal.Goals as goal
 

@@ -1,5 +1,4 @@
 use mathlib.Core.Path.{ap, ◌∙◌}
-use borrow.Author.Rules.{rules}
 use Rattle.rules.specs.Sealing.{seal_answer, seal_next, seal_output}
 use Rattle.rules.specs.declared.Sender.{Sender}
 use Rattle.bench.specs.Numbers.{padded, parts}
@@ -10,6 +9,7 @@ pub returns : goal.returns
 returns c =
     let a = c.args in
     let f = a.frame.now in
-    let o = a.out-1.now in
+    let o = a.out.now in
     let made = c.sender_of-before.ensures in
-    let sealed = c.seal-sealed.ensures in record { answer_after = c.parts_of.ensures ∙ ap padded sealed.0 ∙ ap (λ (s : Sender). parts (seal_answer s f o)) made; last_after = sealed.1.0 ∙ ap (λ (s : Sender). seal_next s f o) made; out_after = sealed.1.1 ∙ ap (λ (s : Sender). seal_output s f o) made }
+    let sealed = c.seal-sealed.ensures in
+    record { answer_after = c.parts_of.ensures ∙ ap padded sealed.answer_value ∙ ap (λ (s : Sender). parts (seal_answer s f o)) made; last_after = sealed.sender_value ∙ ap (λ (s : Sender). seal_next s f o) made; out_after = sealed.out_after ∙ ap (λ (s : Sender). seal_output s f o) made }

@@ -1,5 +1,4 @@
 use mathlib.Core.Path.{ap, ◌∙◌}
-use borrow.Author.Rules.{rules}
 use Rattle.bench.specs.Numbers.{padded}
 use Rattle.bench.proofs.frames.bench_fresh_receiver.Goals as goal
 
@@ -7,4 +6,4 @@ use Rattle.bench.proofs.frames.bench_fresh_receiver.Goals as goal
 pub returns : goal.returns
 returns c =
     let fresh = c.fresh_receiver-fresh.ensures in
- record { answer_after = c.parts_of.ensures ∙ ap padded fresh.0; counts_after = fresh.1 }
+    record { answer_after = c.parts_of.ensures ∙ ap padded fresh.answer_value; counts_after = fresh.receiver_value }

@@ -1,5 +1,4 @@
 use mathlib.Core.Path.{ap, ◌∙◌}
-use borrow.Author.Rules.{rules}
 use Rattle.bench.specs.Numbers.{padded}
 use Rattle.bench.proofs.frames.bench_fresh_sender.Goals as goal
 
@@ -7,4 +6,4 @@ use Rattle.bench.proofs.frames.bench_fresh_sender.Goals as goal
 pub returns : goal.returns
 returns c =
     let fresh = c.fresh_sender-fresh.ensures in
- record { answer_after = c.parts_of.ensures ∙ ap padded fresh.0; last_after = fresh.1 }
+    record { answer_after = c.parts_of.ensures ∙ ap padded fresh.answer_value; last_after = fresh.sender_value }

@@ -1,5 +1,4 @@
 use mathlib.Core.Path.{ap}
-use borrow.Author.Rules.{rules}
 use Rattle.rules.specs.declared.Receiver.{Receiver}
 use Rattle.bench.specs.Numbers.{with_windows}
 use Rattle.bench.proofs.frames.receiver_of.Goals as goal
@@ -8,4 +7,4 @@ use Rattle.bench.proofs.frames.receiver_of.Goals as goal
 pub returns : goal.returns
 returns c =
     let a = c.args in
-    ap (λ (r : Receiver). with_windows r a.replay a.seen a.t7) c.new_receiver-r.ensures
+    ap (λ (r : Receiver). with_windows r a.replay a.seen a.counts) c.new_receiver-r.ensures

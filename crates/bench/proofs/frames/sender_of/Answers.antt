@@ -1,5 +1,4 @@
 use mathlib.Core.Path.{ap}
-use borrow.Author.Rules.{rules}
 use Rattle.rules.specs.declared.Sender.{Sender}
 use Rattle.rules.specs.Records.{with_last}
 use Rattle.bench.proofs.frames.sender_of.Goals as goal

@@ -2,7 +2,6 @@ use mathlib.Core.Path.{ap, ◌∙◌}
 use Rattle.rules.specs.Adding.{add_answer, add_next}
 use Rattle.rules.specs.declared.Table.{Table}
 use Rattle.bench.specs.Numbers.{camera, padded, parts}
-use borrow.Author.Rules.{rules}
 use Rattle.bench.proofs.tables.bench_table_add.Goals as goal
 
 -- The contract of `add` twice, on a fresh table and on what that leaves, its answer in four numbers.

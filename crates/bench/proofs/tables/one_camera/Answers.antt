@@ -1,4 +1,3 @@
-use borrow.Author.Rules.{rules}
 use Rattle.bench.proofs.tables.one_camera.Goals as goal
 
 -- A fresh table, and a new entry in its first place.

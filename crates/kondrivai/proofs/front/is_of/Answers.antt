@@ -1,5 +1,4 @@
 use borrow.Author.Tests.{eq-eqb, ne_eqb}
-use borrow.Author.Rules.{rules}
 use Rattle.kondrivai.proofs.front.is_of.Goals as goal
 
 -- The length and the two octets of the front, one test each.

@@ -2,7 +2,6 @@ use mathlib.Core.Path.{ap, ◌∙◌}
 use mathlib.Core.List.{List, [], ◌∷◌, ◌++◌}
 use Prim.Native.Nat.{ℕ}
 use Rattle.kondrivai.specs.Layout1.{layout}
-use borrow.Author.Rules.{rules}
 use Rattle.kondrivai.proofs.front.put_front.Goals as goal
 
 -- The kind, and after it the number of the layout.

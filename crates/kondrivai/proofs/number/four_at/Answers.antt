@@ -1,6 +1,5 @@
 use native.Mathlib.Omega.{arith}
 use Rattle.kondrivai.proofs.Numbers.{word_parts}
-use borrow.Author.Rules.{rules}
 use Rattle.kondrivai.proofs.number.four_at.Goals as goal
 
 -- Two numbers of two octets.

@@ -5,14 +5,13 @@ use native.Mathlib.Omega.{arith}
 use lib.ListN.{length, take, drop, length-take, length-drop}
 use Rattle.octets.proofs.Lists.{laid_all}
 use Rattle.kondrivai.proofs.Numbers.{string_put}
-use borrow.Author.Rules.{rules}
 use Rattle.kondrivai.proofs.number.put_octets.Goals as goal
 
 -- The string replaces as many octets of the buffer.
 pub returns : goal.returns
 returns c =
     let i = c.args.i in
-    let b = c.args.b-1.now in
+    let b = c.args.b.now in
     let src = c.args.s.now in
     let n = i + length src - i in
     let size : length (take n (drop i b)) ≡ length src = omega (arith, length-take n (drop i b), length-drop i b, c.requires) in

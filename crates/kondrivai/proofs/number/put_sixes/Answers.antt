@@ -1,11 +1,9 @@
-use Prim.Native.Nat.{◌-◌}
-use Rattle.rules.specs.Limits.{priorities}
-use Rattle.kondrivai.proofs.Numbers.{Written, none_written, one_written, all_written}
+use Rattle.kondrivai.proofs.Numbers.{none_written, one_written, all_written}
 use borrow.Author.Rules.{rules}
 use Rattle.kondrivai.proofs.number.put_sixes.Goals as goal
 
 pub loop-p-init : goal.loop-p-init
-loop-p-init c = let a = c.args in none_written 6 a.i a.t1 a.b-1.now
+loop-p-init c = let a = c.args in none_written 6 a.i a.xs a.b.now
 
 pub loop-p-preserved : goal.loop-p-preserved
 loop-p-preserved c =

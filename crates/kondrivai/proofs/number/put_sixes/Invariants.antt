@@ -1,7 +1,6 @@
 use Prim.Native.Nat.{◌-◌}
 use Rattle.rules.specs.Limits.{priorities}
-use Rattle.kondrivai.proofs.Numbers.{Written, none_written, one_written, all_written}
-use borrow.Author.Rules.{rules}
+use Rattle.kondrivai.proofs.Numbers.{Written}
 use Rattle.kondrivai.proofs.number.put_sixes.Given as goal
 
 -- After p turns the first p numbers are written.

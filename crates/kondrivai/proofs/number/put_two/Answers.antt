@@ -3,7 +3,6 @@ use lib.ListN.{length-set}
 use Prim.Native.Nat.{◌/◌, ◌%◌}
 use Rattle.kondrivai.specs.Numbers.{octets_of}
 use Rattle.kondrivai.proofs.Numbers.{two_put}
-use borrow.Author.Rules.{rules}
 use Rattle.kondrivai.proofs.number.put_two.Goals as goal
 
 -- The octets are written one after the other.

@@ -1,7 +1,5 @@
 use mathlib.Core.Path.{refl}
-use Prim.Native.Nat.{◌-◌}
-use Rattle.rules.specs.Limits.{priorities}
-use Rattle.kondrivai.proofs.Numbers.{Filled, one_filled, all_filled}
+use Rattle.kondrivai.proofs.Numbers.{one_filled, all_filled}
 use borrow.Author.Rules.{rules}
 use Rattle.kondrivai.proofs.number.sixes_at.Goals as goal
 

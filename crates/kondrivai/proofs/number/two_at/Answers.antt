@@ -1,6 +1,5 @@
 use native.Mathlib.Omega.{arith}
 use Rattle.kondrivai.proofs.Numbers.{two_octets_lem}
-use borrow.Author.Rules.{rules}
 use Rattle.kondrivai.proofs.number.two_at.Goals as goal
 
 -- The two octets that are read are the number's.

@@ -1,8 +1,6 @@
-use mathlib.Core.Path.{refl}
 use Prim.Native.Nat.{◌-◌}
 use Rattle.rules.specs.Limits.{priorities}
-use Rattle.kondrivai.proofs.Numbers.{Filled, one_filled, all_filled}
-use borrow.Author.Rules.{rules}
+use Rattle.kondrivai.proofs.Numbers.{Filled}
 use Rattle.kondrivai.proofs.number.twos_at.Given as goal
 
 -- After p turns the first p numbers are there.

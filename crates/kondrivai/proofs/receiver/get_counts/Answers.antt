@@ -1,5 +1,4 @@
 use Rattle.kondrivai.specs.Layout1.{counts_in}
-use borrow.Author.Rules.{rules}
 use Rattle.kondrivai.proofs.receiver.get_counts.Goals as goal
 
 -- Four numbers of four octets.

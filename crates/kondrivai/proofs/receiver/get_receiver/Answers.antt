@@ -2,7 +2,6 @@ use mathlib.Core.Path.{ap, ◌∙◌}
 use Rattle.rules.specs.declared.Receiver.{Receiver}
 use Rattle.kondrivai.specs.Meaning.{receiver1}
 use Rattle.kondrivai.specs.Layout1.{receiver_in}
-use borrow.Author.Rules.{rules}
 use Rattle.kondrivai.proofs.receiver.get_receiver.Goals as goal
 
 -- A new receiver of the fields that are read, with counts and windows set.

@@ -2,7 +2,6 @@ use mathlib.Core.Path.{ap, ◌∙◌}
 use mathlib.Core.List.{List, ◌++◌, append_assoc, append-nil}
 use Prim.Native.Nat.{ℕ}
 use Rattle.kondrivai.specs.Numbers.{octets_of, octets_of_each}
-use borrow.Author.Rules.{rules}
 use Rattle.kondrivai.proofs.receiver.put_counts.Goals as goal
 
 -- Four numbers of four octets, one behind the other.

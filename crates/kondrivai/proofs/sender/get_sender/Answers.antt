@@ -2,7 +2,6 @@ use mathlib.Core.Path.{ap, ◌∙◌}
 use Rattle.rules.specs.Records.{with_last}
 use Rattle.rules.specs.declared.Sender.{Sender}
 use Rattle.kondrivai.specs.Layout1.{sender_in}
-use borrow.Author.Rules.{rules}
 use Rattle.kondrivai.proofs.sender.get_sender.Goals as goal
 
 -- A new sender of the fields that are read, with the last number set.
