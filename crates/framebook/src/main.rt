@@ -62,7 +62,13 @@ fn tell_unwritten(stderr: &mut Stderr) {
 
 // Reads to the end of the input, or to a bad line 1. A read or a write that fails is told on standard error and ends the run: then
 // a last line without a line feed is not answered, since the end of the text was not seen.
-fn run(piece: &mut [u8], out: &mut [u8], stdin: &mut Stdin, stdout: &mut Stdout, stderr: &mut Stderr)
+fn run(
+    piece: &mut [u8],
+    out: &mut [u8],
+    stdin: &mut Stdin,
+    stdout: &mut Stdout,
+    stderr: &mut Stderr,
+)
     requires { most_answer ≤ length out.old }
 {
     let mut reader = book::new_reader();
