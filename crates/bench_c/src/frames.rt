@@ -79,5 +79,7 @@ pub extern "C" fn bench_ccmp_open(
     ensures out_after { out.new
         ≡ open_output (receiver key.old key_id.old peer.old size.old replay.old seen.old counts.old) frame.now out.old }
 {
-    bench::frames::bench_ccmp_open(key, key_id, peer, size, replay, seen, counts, answer, frame, out);
+    bench::frames::bench_ccmp_open(
+        key, key_id, peer, size, replay, seen, counts, answer, frame, out,
+    );
 }

@@ -48,5 +48,7 @@ pub extern "C" fn bench_join(
     ensures out_after { out.new
         ≡ join_output (joiner held.old length.old address.old priority.old sequence.old fragment.old last.old) frame.now number out.old }
 {
-    bench::pictures::bench_join(held, length, address, priority, sequence, fragment, last, answer, frame, number, out);
+    bench::pictures::bench_join(
+        held, length, address, priority, sequence, fragment, last, answer, frame, number, out,
+    );
 }
