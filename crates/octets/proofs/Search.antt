@@ -1,26 +1,34 @@
--- A step of a search.
-use Rattle.std.proofs.Common.{◌≡◌, ℕ, suc, ◌<◌, ◌≤◌, List, ◌∷◌, length, take, drop, get_or, refl, ap, ◌∙◌, arith, length-take-le, drop-cons, eq-eqb}
-use borrow.Author.Tests.{ne_eqb}
-use Rattle.std.proofs.lemmas.List.{get_or-take, drop_all}
-use Rattle.octets.specs.Search.{slice, index_after, index_of}
+-- What `find` answers, said by `index_of`: the length where there is no x, and else the place of the first.
+use Rattle.std.proofs.Common.{◌≡◌, ◌==◌, ℕ, ◌+◌, ◌<◌, Bool, true, false, cond, not, List, length, Some, None, position, nat_lt, refl, ◌∙◌, arith}
+use Rattle.std.proofs.lemmas.Bool.{ltb-true, ltb-false}
+use Rattle.std.proofs.lemmas.List.Recursion.{is_position_or_len}
+use Rattle.std.proofs.lemmas.List.Sums.{prefix_len-le-length}
+use Rattle.std.specs.List.{position_or_len}
+use Rattle.octets.specs.Search.{index_after, index_of}
 
-slice_suc : (i j : ℕ) (s : List ℕ) → i < j → j ≤ length s → slice i j s ≡ get_or s i 0 ∷ slice (suc i) j s
-unfolding slice
-slice_suc i j s h l =
-    let size = length-take-le j s l in
-    drop-cons (take j s) i 0 (omega arith) ∙ ap (λ (y : ℕ). y ∷ drop (suc i) (take j s)) (get_or-take j s i 0 h)
+after : (b : Bool) (n : ℕ) → index_after b n ≡ cond b 0 (1 + n)
+unfolding index_after
+after true n = refl
+after false n = omega arith
 
--- the octet at i is the one
-pub found_here : (x i j : ℕ) (s : List ℕ) → i < j → j ≤ length s → get_or s i 0 ≡ x → index_of x (slice i j s) ≡ 0
-unfolding index_of index_after
-found_here x i j s h l e = rw (slice_suc i j s h l, eq-eqb (get_or s i 0) x e) refl
+module _ (x : ℕ) (s : List ℕ) where
+  index_is : index_of x s ≡ position_or_len (λ y. y == x) s
+  unfolding index_of
+  index_is = is_position_or_len (index_of x) (λ y. y == x) refl (λ y t. after (y == x) (index_of x t)) s
 
--- it is not
-pub found_later : (x i j : ℕ) (s : List ℕ) → i < j → j ≤ length s → (get_or s i 0 ≡ x → ⊥) → index_of x (slice i j s) ≡ suc (index_of x (slice (suc i) j s))
-unfolding index_of index_after
-found_later x i j s h l e = rw (slice_suc i j s h l, ne_eqb (get_or s i 0) x e) refl
+  answer_is : position (λ y. y == x) s ≡ cond (nat_lt (index_of x s) (length s)) (Some (index_of x s)) None
+  answer_is = rw index_is
 
--- none is left
-pub found_nowhere : (x j : ℕ) (s : List ℕ) → j ≤ length s → index_of x (slice j j s) ≡ 0
-unfolding index_of slice
-found_nowhere x j s l = let size = length-take-le j s l in ap (index_of x) (drop_all j (take j s) (omega arith))
+  pub not_found : None ≡ position (λ y. y == x) s → index_of x s ≡ length s
+  not_found e = go (nat_lt (index_of x s) (length s)) refl (e ∙ answer_is)
+    where
+      go : (b : Bool) → nat_lt (index_of x s) (length s) ≡ b → None ≡ cond b (Some (index_of x s)) None → index_of x s ≡ length s
+      go true q f = cc
+      go false q f = omega (arith, index_is, prefix_len-le-length (λ y. not (y == x)) s, ltb-false (index_of x s) (length s) q)
+
+  pub found : (i : ℕ) → Some i ≡ position (λ y. y == x) s → (index_of x s ≡ i) × (i < length s)
+  found i e = go (nat_lt (index_of x s) (length s)) refl (e ∙ answer_is)
+    where
+      go : (b : Bool) → nat_lt (index_of x s) (length s) ≡ b → Some i ≡ cond b (Some (index_of x s)) None → (index_of x s ≡ i) × (i < length s)
+      go true q f = let here : index_of x s ≡ i = cc in (here, omega (arith, ltb-true (index_of x s) (length s) q))
+      go false q f = cc
