@@ -5,7 +5,7 @@ ghost use Rattle.aes.specs.KeyExpansion.{xor_word, temp, key_expansion};
 ghost use Rattle.aes.specs.Word.{bytes, Products};
 
 use crate::column::sub_word;
-use crate::word::{rot_word, word_at};
+use crate::word::{rot_word, unpack, word_at};
 
 // The powers of x in Rcon[1] to Rcon[10].
 const RCON: [u32; 10] = [0x01, 0x02, 0x04, 0x08, 0x10, 0x20, 0x40, 0x80, 0x1b, 0x36];
@@ -35,22 +35,11 @@ pub fn expand(t: &[u64; 256], key: [u8; 16]) -> [u8; 176]
     ensures { Products t.now → result ≡ key_expansion 4 10 key }
 {
     let mut w = [0u8; 176];
-    let mut k: usize = 0;
-    while k < 16 {
-        w[k] = key[k];
-        k += 1;
-    }
+    octets::copy(&key, &mut w);
     let mut last = word_at(&w, 3);
-    let mut n: usize = 0;
-    while n < 40 {
-        let x = next_word(t, &w, 4 + n, last);
-        let at = 4 * n + 16;
-        w[at] = (x % 256) as u8;
-        w[at + 1] = ((x >> 8) % 256) as u8;
-        w[at + 2] = ((x >> 16) % 256) as u8;
-        w[at + 3] = (x >> 24) as u8;
-        last = x;
-        n += 1;
+    for i in 4..44 {
+        last = next_word(t, &w, i, last);
+        octets::copy(&unpack(last), &mut w[4 * i..4 * i + 4]);
     }
     w
 }

@@ -1,5 +1,7 @@
 use mathlib.Core.Path.{ap, ◌∙◌}
 use borrow.Author.Rules.{rules}
+use Rattle.std.proofs.Common.{ℕ, List}
+use Rattle.aes.specs.Cipher.{mix_column}
 use Rattle.aes.specs.KeyExpansion.{sub_word}
 use Rattle.aes.specs.Word.{bytes}
 use Rattle.aes.proofs.Entries.{turned_0, turned_1, turned_2, turned_3}
@@ -15,3 +17,4 @@ returns c h =
     (ap bytes c.low_half-2.ensures ∙ turned_3 _ _ (octet_sbox _) (h.entry _ (search rules)))
     (ap bytes c.low_half-3.ensures ∙ turned_2 _ _ (octet_sbox _) (h.entry _ (search rules)))
     (ap bytes c.low_half-4.ensures ∙ turned_1 _ _ (octet_sbox _) (h.entry _ (search rules)))
+    ∙ ap (λ (l : List ℕ). mix_column (sub_word l)) c.unpack.ensures

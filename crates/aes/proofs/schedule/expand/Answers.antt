@@ -1,38 +1,27 @@
-use mathlib.Core.Path.{◌≡◌, refl, sym, ap₂, ◌∙◌}
-use Prim.Native.Nat.{◌+◌, ◌*◌}
-use native.Mathlib.Omega.{arith}
-use lib.ListN.{length-set}
+use Rattle.std.proofs.Common.{rules, arith, sym, ap, ◌∙◌, ◌≡◌, ◌-◌, ◌*◌}
+use borrow.Rule.Slice.PartMut.{same_len_mid}
 use lib.Seq.{take_all}
-use borrow.Author.Rules.{rules}
 use Rattle.aes.specs.KeyExpansion.{schedule, key_expansion}
-use Rattle.aes.proofs.Expansion.{copied, whole, at_hand, grown}
+use Rattle.aes.proofs.Expansion.{whole, laid_word, at_hand, grown}
 use Rattle.aes.proofs.schedule.expand.Goals as goal
 
-pub loop-k-init : goal.loop-k-init
-loop-k-init c = (omega arith, refl, refl)
-
-pub loop-k-preserved : goal.loop-k-preserved
-loop-k-preserved c =
-    let p = c.loop-k in
-    (omega arith, simp length-set p.invariant.1, copied p.w c.args.key p.k (omega arith) (search rules) p.invariant.2)
-
-pub loop-n-init : goal.loop-n-init
+pub loop-i-init : goal.loop-i-init
 unfolding schedule
-loop-n-init c = (omega arith, c.loop-k.invariant.1, c.word_at-last.ensures, λ h. refl)
+loop-i-init c = (search rules, c.word_at-last.ensures, λ h. whole c.copy.new.to c.args.key _ (search rules) c.copy.ensures.copied)
 
-pub loop-n-preserved : goal.loop-n-preserved
-loop-n-preserved c =
-    let l = c.loop-n in (
-      omega arith,
-      simp length-set l.invariant.1,
-      at_hand l.w l.n _ l.invariant.1 (omega arith),
-      λ h. grown l.w l.n _ l.invariant.1 (omega arith) _ l.last (l.invariant.3 h) l.invariant.2 (c.next_word-x.ensures h),
+pub loop-i-preserved : goal.loop-i-preserved
+loop-i-preserved c =
+    let l = c.loop-i in
+    let v = l.invariant in
+    let is = c.copy-in-loop-i.ensures.copied ∙ laid_word _ _ _ _ (omega arith) c.unpack.ensures in (
+      same_len_mid _ _ l.w _ c.copy-in-loop-i.auto.to ∙ v.0,
+      at_hand l.w _ l.i _ _ v.0 l.auto.i c.loop-i-test.true is,
+      λ h. grown l.w _ l.i _ _ v.0 l.auto.i c.loop-i-test.true is c.args.key l.last (v.2 h) v.1 (c.next_word-last.ensures h),
     )
 
 pub returns : goal.returns
 unfolding key_expansion
 returns c h =
-    let p = c.loop-n in
-    let e : p.n ≡ 40 = omega arith in
-    sym (take_all (4 * p.n + 16) p.w (omega arith)) ∙ p.invariant.3 h
-    ∙ ap₂ (schedule 4) (whole c.loop-k.w c.args.key c.loop-k.k (omega arith) (search rules) c.loop-k.invariant.2) e
+    let l = c.loop-i in
+    let e : l.i - 4 ≡ 40 = omega arith in
+    sym (take_all (4 * l.i) l.w (omega arith)) ∙ l.invariant.2 h ∙ ap (schedule 4 c.args.key) e
