@@ -1,6 +1,7 @@
 pub mod Laws
 mod Answers
 mod Codes
+mod Schedules
 mod Padding
 mod Parts
 mod Splitting

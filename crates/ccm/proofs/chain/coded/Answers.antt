@@ -18,4 +18,5 @@ returns c =
     let ys = c.copy.new.to in
     let is : ys ≡ a.aad.now = c.copy.ensures.copied ∙ laid_all a.aad.now _ (simp length-take (omega arith)) in
     let e : n + 2 ≡ suc (suc n) = omega arith in
-    rw e (ap (λ (l : List ℕ). n / 256 ∷ n % 256 ∷ l) (take_at ys _ n (ap length is) ∙ is))
+    let first : n / 256 % 256 ≡ n / 256 = omega arith in
+    rw (c.to_be_bytes.ensures, first, e) (ap (λ (l : List ℕ). n / 256 ∷ n % 256 ∷ l) (take_at ys _ n (ap length is) ∙ is))
