@@ -17,9 +17,9 @@ use Rattle.rules.specs.Calls.{no_call, at, open_run}
 use Rattle.rules.specs.Sending.{Sent}
 use Rattle.rules.specs.Demand2.{Match}
 use Rattle.rules.specs.Demand3.{InWindow, Delivered, Demand3}
+use Rattle.rules.specs.Answers.{Done, Refused}
 use Rattle.rules.specs.declared.Sender.{Sender}
 use Rattle.rules.specs.declared.Receiver.{Receiver}
-use Rattle.rules.specs.declared.Answer.TheVariants.{Done, Refused}
 use Rattle.rules.proofs.Sends.{Genuine, sent_at_lem, Opens, sent_answer, opens}
 use Rattle.rules.proofs.Windows.{taken_when, held, replays}
 use Rattle.rules.proofs.Steps.{windows_sound, zeros, new_windowed}

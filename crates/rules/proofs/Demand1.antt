@@ -12,7 +12,7 @@ use Rattle.rules.specs.Header.{priority}
 use Rattle.rules.specs.Nonce.{number}
 use Rattle.rules.specs.Mode.{added}
 use Rattle.rules.specs.Records.{sender_next, format_count, replay_count, decrypt_count, opened_count, count_of, counted, receiver_next}
-use Rattle.rules.specs.Answers.{Test, among, answer_number, first_that_applies}
+use Rattle.rules.specs.Answers.{Answer, Done, Test, among, answer_number, first_that_applies}
 use Rattle.rules.specs.Sealing.{seal_tests, seal_answer, seal_output}
 use Rattle.rules.specs.Opening.{open_tests, open_answer, open_output}
 use Rattle.rules.specs.Splitting.{fragments, sealed_length, split_tests, split_answer, splitter_next, split_output}
@@ -22,8 +22,6 @@ use Rattle.rules.specs.Demand1.{seal_numbers, split_numbers, join_numbers, open_
 use Rattle.rules.specs.declared.Sender.{Sender}
 use Rattle.rules.specs.declared.Receiver.{Receiver}
 use Rattle.rules.specs.declared.Joiner.{Joiner}
-use Rattle.rules.specs.declared.Answer.{Answer}
-use Rattle.rules.specs.declared.Answer.TheVariants.{Done}
 use Rattle.rules.proofs.Passing.{of_each, of_first}
 use Rattle.rules.proofs.Moves.{moves, has, each_moves}
 

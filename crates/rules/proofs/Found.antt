@@ -11,7 +11,7 @@ use Rattle.rules.specs.Header.{address1, address2, priority}
 use Rattle.rules.specs.Nonce.{ccmp_of, key_id_in, number}
 use Rattle.rules.specs.Mode.{added}
 use Rattle.rules.specs.Records.{sound_sender, sound_receiver}
-use Rattle.rules.specs.Answers.{Test, first_that_applies, none_applies, written}
+use Rattle.rules.specs.Answers.{Answer, Done, Test, first_that_applies, none_applies, written}
 use Rattle.rules.specs.Tests.{entry_test, replay_test, code_test, spent_test}
 use Rattle.rules.specs.Sealing.{sealed_frame, seal_answer, seal_output, Sealable}
 use Rattle.rules.specs.Opening.{opened_frame, open_answer, open_output}
@@ -21,8 +21,6 @@ use Rattle.rules.specs.Demand2.{Match}
 use Rattle.rules.specs.TableDemand1.{TableSealOrder, TableOpenOrder}
 use Rattle.rules.specs.TableDemand2.{EntryOpens, EntrySealsBack, TableOpens, TableSealsBack}
 use Rattle.rules.specs.declared.Sender.{Sender}
-use Rattle.rules.specs.declared.Answer.{Answer}
-use Rattle.rules.specs.declared.Answer.TheVariants.{Done}
 use Rattle.rules.specs.declared.Entry.{Entry}
 use Rattle.rules.specs.declared.Table.{Table}
 use Rattle.rules.proofs.Fields.{key_in}

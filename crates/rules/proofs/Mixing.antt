@@ -20,10 +20,9 @@ use Rattle.rules.specs.Joining.{fragment_of, fresh_joiner, follows, starts, cont
 use Rattle.rules.specs.Calls.{Call, JoinCall, given_at, join_run, join_answer_at, join_output_at}
 use Rattle.rules.specs.Sending.{SenderCall, splitting, asked_at, send_next, Sent, no_sent, sent_at, Among, sent_by, send_run, sent}
 use Rattle.rules.specs.Fragments.{Gives, Split, sealed_by, GivenFragments, NeverMixed, Fragments}
+use Rattle.rules.specs.Answers.{Answer, Done, Refused}
 use Rattle.rules.specs.declared.Sender.{Sender}
 use Rattle.rules.specs.declared.Joiner.{Joiner}
-use Rattle.rules.specs.declared.Answer.{Answer}
-use Rattle.rules.specs.declared.Answer.TheVariants.{Done, Refused}
 use Rattle.rules.proofs.Pieces.{together, together_next, together_all, more_one, more_none}
 use Rattle.rules.proofs.Fragmented.{IsPart}
 use Rattle.rules.proofs.Splits.{split_done, pieces_together}

@@ -8,14 +8,12 @@ use lib.ListN.{length}
 use Rattle.rules.specs.Header.{priority}
 use Rattle.rules.specs.Nonce.{number}
 use Rattle.rules.specs.Records.{format_count, replay_count, decrypt_count, opened_count, count_of}
-use Rattle.rules.specs.Answers.{Test, first_that_applies, among, answer_number}
+use Rattle.rules.specs.Answers.{Answer, Done, Test, first_that_applies, among, answer_number}
 use Rattle.rules.specs.Opening.{open_tests, open_answer}
 use Rattle.rules.specs.Mode.{added}
 use Rattle.rules.specs.Demand1.{format_answers, replay_answers, decrypt_answers, opened_answers}
 use Rattle.rules.specs.Counts.{bit}
 use Rattle.rules.specs.declared.Receiver.{Receiver}
-use Rattle.rules.specs.declared.Answer.{Answer}
-use Rattle.rules.specs.declared.Answer.TheVariants.{Done}
 use Rattle.rules.proofs.Passing.{of_each, of_first}
 
 -- the answer that moves count c, and those with the numbers ns

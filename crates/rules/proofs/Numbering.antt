@@ -9,8 +9,8 @@ use Rattle.rules.specs.Nonce.{number}
 use Rattle.rules.specs.Records.{sound_sender, fresh_answer, new_sender, with_last}
 use Rattle.rules.specs.Sending.{SenderCall, sent_at, sent}
 use Rattle.rules.specs.Numbers.{Numbered, Numbers}
+use Rattle.rules.specs.Answers.{Done}
 use Rattle.rules.specs.declared.Sender.{Sender}
-use Rattle.rules.specs.declared.Answer.TheVariants.{Done}
 use Rattle.rules.proofs.Sealed.{sealed_number}
 use Rattle.rules.proofs.Sends.{Genuine, fits, run_is, run_sound, sent_at_lem}
 use Rattle.rules.proofs.Delivery.{made, made_sender}

@@ -10,7 +10,7 @@ use lib.ListN.{length, take}
 use lib.Seq.{take-length, get_or-set_same, get_or-set_other}
 use Rattle.octets.proofs.Booleans.{both}
 use Rattle.rules.specs.Records.{sender_next, receiver_next}
-use Rattle.rules.specs.Answers.{answer_number}
+use Rattle.rules.specs.Answers.{Answer, Done, Refused, answer_number}
 use Rattle.rules.specs.Sealing.{seal_answer, seal_next, seal_output}
 use Rattle.rules.specs.Opening.{open_answer, open_next, open_output}
 use Rattle.rules.specs.Calls.{Call, open_run}
@@ -20,8 +20,6 @@ use Rattle.rules.specs.Adding.{add_place, add_answer, put_if, remove_answer}
 use Rattle.rules.specs.Serving.{seal_place, table_seal_tests, seal_comes, table_seal_answer, sealed_at, table_seal_next, table_seal_output, open_place, table_open_tests, open_comes, table_open_answer, opened_at, format_counted, table_open_next, table_open_output}
 use Rattle.rules.specs.TableCalls.{TableCall, to_seal, to_open, to_add, to_remove, lent, table_answer, table_next, table_output, table_run, call_at, before, seals_at, opens_at, own_sealings, own_openings, changes, Unchanged}
 use Rattle.rules.specs.Tables.{as_made, Projection}
-use Rattle.rules.specs.declared.Answer.{Answer}
-use Rattle.rules.specs.declared.Answer.TheVariants.{Done, Refused}
 use Rattle.rules.specs.declared.Entry.{Entry}
 use Rattle.rules.specs.declared.Table.{Table}
 use Rattle.rules.proofs.Passing.{all_done}

@@ -19,9 +19,9 @@ use Rattle.rules.specs.Records.{sound_receiver, is_replay}
 use Rattle.rules.specs.Sealing.{sealed_frame, seal_answer, seal_output, Sealable}
 use Rattle.rules.specs.Opening.{opened_frame, open_answer, open_output}
 use Rattle.rules.specs.Demand2.{Match, OpeningUndoesSealing}
+use Rattle.rules.specs.Answers.{Done, Refused}
 use Rattle.rules.specs.declared.Sender.{Sender}
 use Rattle.rules.specs.declared.Receiver.{Receiver}
-use Rattle.rules.specs.declared.Answer.TheVariants.{Done, Refused}
 use Rattle.rules.proofs.Fields.{header_range, authenticated_size, data_range, Alike, kind_alike, length_alike, address1_alike, address_alike, priority_alike, authenticated_alike, unprotect_protect, number_in_lem, key_in, extended_in}
 use Rattle.rules.proofs.Mode.{text_length, text_opens, text_is}
 use Rattle.rules.proofs.Passing.{not_outside, seal_done}

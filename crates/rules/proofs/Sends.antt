@@ -22,10 +22,9 @@ use Rattle.rules.specs.Calls.{Call}
 use Rattle.rules.specs.Sending.{SenderCall, sealing, splitting, send_answer, send_next, send_output, originals, Sent, sent_at, sent_from, sent_by, send_run, sent}
 use Rattle.rules.specs.Demand2.{Match}
 use Rattle.rules.specs.Fragments.{SealedAlone, FramesLikeOthers}
+use Rattle.rules.specs.Answers.{Answer, Done, Refused}
 use Rattle.rules.specs.declared.Sender.{Sender}
 use Rattle.rules.specs.declared.Receiver.{Receiver}
-use Rattle.rules.specs.declared.Answer.{Answer}
-use Rattle.rules.specs.declared.Answer.TheVariants.{Done, Refused}
 use Rattle.rules.proofs.Passing.{seal_answers, seal_done}
 use Rattle.rules.proofs.Sealed.{sealed_size, opened_frame_lem, sealed_answer}
 use Rattle.rules.proofs.Fragmented.{IsPart}

@@ -25,8 +25,7 @@ use Rattle.rules.specs.Serving.{seal_place, seal_comes, sealed_at, table_seal_ne
 use Rattle.rules.specs.Calls.{Call}
 use Rattle.rules.specs.TableCalls.{TableCall, to_seal, to_open, to_add, to_remove, lent, table_next, table_run, OctetCalls, opens_at}
 use Rattle.rules.specs.Tables.{as_made, TablesSound}
-use Rattle.rules.specs.declared.Answer.{Answer}
-use Rattle.rules.specs.declared.Answer.TheVariants.{Done, Refused}
+use Rattle.rules.specs.Answers.{Answer, Done, Refused}
 use Rattle.rules.specs.declared.Entry.{Entry}
 use Rattle.rules.specs.declared.Table.{Table}
 use Rattle.rules.specs.declared.Triple.{Triple}

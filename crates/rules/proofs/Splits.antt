@@ -18,11 +18,10 @@ use Rattle.rules.specs.Limits.{most_number, most_key_id, least_size, most_size, 
 use Rattle.rules.specs.Header.{header_length, priority, protected, set_fragment}
 use Rattle.rules.specs.Mode.{added}
 use Rattle.rules.specs.Records.{sound_sender, with_last}
-use Rattle.rules.specs.Answers.{none_applies, outside}
+use Rattle.rules.specs.Answers.{Done, none_applies, outside}
 use Rattle.rules.specs.Sealing.{Sealable}
 use Rattle.rules.specs.Splitting.{message, pieces, more, fragments, sealed_length, unfit, split_tests, split_answer, Fit, Splittable}
 use Rattle.rules.specs.declared.Sender.{Sender}
-use Rattle.rules.specs.declared.Answer.TheVariants.{Done}
 use Rattle.rules.proofs.Passing.{neither, inside, Passed, passed, done_all}
 use Rattle.rules.proofs.Pieces.{together, more_one, more_none, cut_together, cut_count, cut_at, cut_starts, cut_reaches}
 use Rattle.rules.proofs.Fragmented.{from_count, from_at, from_octets, IsPart, carries}

@@ -17,9 +17,8 @@ use Rattle.rules.specs.Limits.{most_key_id, small_window, large_window, prioriti
 use Rattle.rules.specs.Windows.{is_size, window_next, sound_window}
 use Rattle.rules.specs.Records.{window_of, each_below, receiver_fits, sound_receiver, new_receiver, receiver_next}
 use Rattle.rules.specs.Opening.{open_answer, open_next}
+use Rattle.rules.specs.Answers.{Answer, Done, Refused}
 use Rattle.rules.specs.declared.Receiver.{Receiver}
-use Rattle.rules.specs.declared.Answer.{Answer}
-use Rattle.rules.specs.declared.Answer.TheVariants.{Done, Refused}
 use Rattle.rules.proofs.Fields.{priority_below, number_most}
 use Rattle.rules.proofs.Passing.{open_done}
 use Rattle.rules.proofs.Standing.{stays_sound}

@@ -11,7 +11,7 @@ use lib.ListN.{length, get_or, set}
 use lib.Seq.{take-length}
 use Rattle.rules.specs.Limits.{count_limit}
 use Rattle.rules.specs.Records.{format_count, replay_count, decrypt_count, opened_count, count_of, counted, receiver_next}
-use Rattle.rules.specs.Answers.{among, answer_number}
+use Rattle.rules.specs.Answers.{Answer, Done, Refused, among, answer_number}
 use Rattle.rules.specs.Opening.{open_answer, open_next}
 use Rattle.rules.specs.Counts.{bit}
 use Rattle.rules.specs.Calls.{no_call}
@@ -21,8 +21,6 @@ use Rattle.rules.specs.Serving.{seal_place, seal_comes, sealed_at, table_seal_ne
 use Rattle.rules.specs.TableCalls.{TableCall, to_seal, to_open, to_add, to_remove, table_answer, table_next, table_run, call_at, before, table_answer_at, loses}
 use Rattle.rules.specs.TableDemand1.{uncounted, counted_by_table}
 use Rattle.rules.specs.TableCounts.{entry_counts, all_counts, is_opening, openings_with, TableCounted}
-use Rattle.rules.specs.declared.Answer.{Answer}
-use Rattle.rules.specs.declared.Answer.TheVariants.{Done, Refused}
 use Rattle.rules.specs.declared.Entry.{Entry}
 use Rattle.rules.specs.declared.Table.{Table}
 use Rattle.rules.specs.declared.Triple.{Triple}

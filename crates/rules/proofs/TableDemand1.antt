@@ -9,7 +9,7 @@ use lib.ListN.{length}
 use lib.Seq.{set-get_or}
 use Rattle.octets.proofs.Booleans.{both}
 use Rattle.rules.specs.Records.{sender_next, format_count, count_of, counted}
-use Rattle.rules.specs.Answers.{Test, among, answer_number, first_that_applies}
+use Rattle.rules.specs.Answers.{Answer, Done, Refused, Test, among, answer_number, first_that_applies}
 use Rattle.rules.specs.Tests.{spent_test}
 use Rattle.rules.specs.Opening.{open_answer}
 use Rattle.rules.specs.Demand1.{one_more}
@@ -17,8 +17,6 @@ use Rattle.rules.specs.Table.{free_entry, entry_at, put}
 use Rattle.rules.specs.Adding.{add_tests, add_answer, remove_tests, remove_answer}
 use Rattle.rules.specs.Serving.{seal_place, table_seal_tests, seal_comes, table_seal_answer, sealed_at, table_seal_next, table_seal_output, open_place, table_open_tests, open_comes, table_open_answer, opened_at, format_counted, table_open_next, table_open_output}
 use Rattle.rules.specs.TableDemand1.{table_seal_numbers, table_open_numbers, add_numbers, remove_numbers, uncounted, counted_by_table, counted_by_entry, TableKeeps, TableOpeningKeeps, TableDemand1}
-use Rattle.rules.specs.declared.Answer.{Answer}
-use Rattle.rules.specs.declared.Answer.TheVariants.{Done, Refused}
 use Rattle.rules.specs.declared.Entry.{Entry}
 use Rattle.rules.specs.declared.Table.{Table}
 use Rattle.rules.proofs.Passing.{any_done}

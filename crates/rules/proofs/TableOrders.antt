@@ -9,7 +9,7 @@ use lib.ListN.{length, take, length-set, get_or-map}
 use lib.Seq.{ext_get_or}
 use Rattle.octets.specs.Octets.{Octets}
 use Rattle.rules.specs.Header.{priority}
-use Rattle.rules.specs.Answers.{Test, first_that_applies, none_applies, among, answer_number}
+use Rattle.rules.specs.Answers.{Answer, Test, first_that_applies, none_applies, among, answer_number}
 use Rattle.rules.specs.Opening.{open_answer, open_next, open_output}
 use Rattle.rules.specs.Calls.{Call, no_call, at}
 use Rattle.rules.specs.Table.{free_entry, fresh_table, entry_at, is_for, place_of}
@@ -19,7 +19,6 @@ use Rattle.rules.specs.Tables.{as_made}
 use Rattle.rules.specs.TableDemand1.{counted_by_table}
 use Rattle.rules.specs.TableDemand3.{Through, TableReordered}
 use Rattle.rules.specs.declared.Receiver.{Receiver}
-use Rattle.rules.specs.declared.Answer.{Answer}
 use Rattle.rules.specs.declared.Table.{Table}
 use Rattle.rules.specs.declared.Window.{Window}
 use Rattle.rules.proofs.Passing.{any_done, open_done}

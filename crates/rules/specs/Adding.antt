@@ -1,11 +1,9 @@
 -- Document 02, request 4: adding an entry to a table, and removing one.
 use Rattle.std.specs.Prelude.{cond, not, List, [], ◌∷◌, ℕ}
 use Rattle.rules.specs.Records.{receiver_fits}
-use Rattle.rules.specs.Answers.{Test, in_order, first_that_applies}
+use Rattle.rules.specs.Answers.{Answer, Done, Refused, Test, in_order, first_that_applies}
 use Rattle.rules.specs.Tests.{record_test, entry_test, full_test, key_test}
 use Rattle.rules.specs.Table.{new_entry, free_entry, put, has_key, is_free, sound_table, first_place, is_place, place_of}
-use Rattle.rules.specs.declared.Answer.{Answer}
-use Rattle.rules.specs.declared.Answer.TheVariants.{Done, Refused}
 use Rattle.rules.specs.declared.Table.{Table}
 use Rattle.rules.specs.declared.Entry.{Entry}
 use Rattle.rules.specs.declared.Triple.{Triple}

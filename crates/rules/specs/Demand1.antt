@@ -3,7 +3,7 @@
 -- proof of each function.
 use Rattle.std.specs.Prelude.{◌≡◌, true, cond, List, [], ◌∷◌, ◌≢◌, ℕ, ◌+◌, ◌%◌}
 use Rattle.rules.specs.Limits.{count_limit}
-use Rattle.rules.specs.Answers.{among, answer_number}
+use Rattle.rules.specs.Answers.{Answer, Refused, among, answer_number}
 use Rattle.rules.specs.Sealing.{seal_answer, seal_next, seal_output}
 use Rattle.rules.specs.Opening.{open_answer, open_next, open_output}
 use Rattle.rules.specs.Splitting.{split_answer, split_next, split_output}
@@ -12,8 +12,6 @@ use Rattle.rules.specs.declared.Sender.{Sender}
 use Rattle.rules.specs.declared.Joiner.{Joiner}
 use Rattle.rules.specs.declared.Receiver.{Receiver}
 use Rattle.rules.specs.declared.Counts.{Counts}
-use Rattle.rules.specs.declared.Answer.{Answer}
-use Rattle.rules.specs.declared.Answer.TheVariants.{Refused}
 
 -- the numbers of each call's answers
 abbrev pub seal_numbers : List ℕ

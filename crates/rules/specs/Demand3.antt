@@ -2,13 +2,12 @@
 use Rattle.std.specs.Prelude.{◌≡◌, Bool, true, List, ◌++◌, ◌↔◌, ℕ, ◌+◌, ◌<◌, ◌≤◌, length, drop}
 use Rattle.rules.specs.Header.{priority}
 use Rattle.rules.specs.Records.{receiver_answer, fresh_sender, fresh_receiver}
-use Rattle.rules.specs.Answers.{none_applies}
+use Rattle.rules.specs.Answers.{Done, Refused, none_applies}
 use Rattle.rules.specs.Tests.{header_tests}
 use Rattle.rules.specs.Calls.{Call, at, OctetFrames, open_run, open_answer_at, open_output_at}
 use Rattle.rules.specs.Sending.{SenderCall, Sent, Among, sent}
 use Rattle.rules.specs.declared.Sender.{Sender}
 use Rattle.rules.specs.declared.Receiver.{Receiver}
-use Rattle.rules.specs.declared.Answer.TheVariants.{Done, Refused}
 
 -- call j of ds delivers the sealed frame x unchanged, with room for its original
 pub record Delivers (x : Sent) (ds : List Call) (j : ℕ) : Type 0 where

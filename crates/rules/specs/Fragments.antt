@@ -11,10 +11,10 @@ use Rattle.rules.specs.Joining.{sound_joiner, fresh_joiner}
 use Rattle.rules.specs.Calls.{Call, JoinCall, given_at, join_run, join_answer_at, join_output_at}
 use Rattle.rules.specs.Sending.{SenderCall, splitting, asked_at, Sent, sent_at, Among, sent_by, send_run}
 use Rattle.rules.specs.Demand2.{Match}
+use Rattle.rules.specs.Answers.{Done}
 use Rattle.rules.specs.declared.Sender.{Sender}
 use Rattle.rules.specs.declared.Receiver.{Receiver}
 use Rattle.rules.specs.declared.Joiner.{Joiner}
-use Rattle.rules.specs.declared.Answer.TheVariants.{Done}
 
 -- what a call on the sender s sealed, a fragment or a whole frame, is what sealing its original under its number writes
 abbrev pub SealedAlone : Sender → Sent → Type 0

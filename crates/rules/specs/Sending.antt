@@ -4,9 +4,8 @@ use Rattle.rules.specs.Mode.{added}
 use Rattle.rules.specs.Sealing.{seal_answer, seal_next, seal_output}
 use Rattle.rules.specs.Splitting.{fragments, split_answer, split_next, split_output}
 use Rattle.rules.specs.Calls.{Call, no_call}
+use Rattle.rules.specs.Answers.{Answer, Done, Refused}
 use Rattle.rules.specs.declared.Sender.{Sender}
-use Rattle.rules.specs.declared.Answer.{Answer}
-use Rattle.rules.specs.declared.Answer.TheVariants.{Done, Refused}
 
 -- to seal a frame, or to split it at a size
 pub data SenderCall : Type 0 where

@@ -6,12 +6,11 @@ use Rattle.rules.specs.Header.{address1, address2}
 use Rattle.rules.specs.Nonce.{ccmp_of, key_id_in}
 use Rattle.rules.specs.Mode.{added}
 use Rattle.rules.specs.Records.{format_count, count_of, counted}
-use Rattle.rules.specs.Answers.{Test, in_order, first_that_applies, none_applies}
+use Rattle.rules.specs.Answers.{Answer, Test, in_order, first_that_applies, none_applies}
 use Rattle.rules.specs.Tests.{record_test, header_tests, body_test, room_test, extended_test, entry_test}
 use Rattle.rules.specs.Sealing.{seal_answer, seal_next, seal_output}
 use Rattle.rules.specs.Opening.{open_answer, open_next, open_output}
 use Rattle.rules.specs.Table.{sender_of, with_sender, with_receiver, entry_at, put, sound_table, is_place, place_of}
-use Rattle.rules.specs.declared.Answer.{Answer}
 use Rattle.rules.specs.declared.Table.{Table}
 use Rattle.rules.specs.declared.Triple.{Triple}
 

@@ -9,8 +9,8 @@ use Rattle.rules.specs.Sending.{Sent}
 use Rattle.rules.specs.TableCalls.{TableCall, table_run, call_at, before, table_answer_at, OctetCalls, opens_at}
 use Rattle.rules.specs.Demand3.{Delivered}
 use Rattle.rules.specs.TableDemand3.{DeliveredTo}
+use Rattle.rules.specs.Answers.{Done, Refused}
 use Rattle.rules.specs.declared.Receiver.{Receiver}
-use Rattle.rules.specs.declared.Answer.TheVariants.{Done, Refused}
 use Rattle.rules.specs.declared.Table.{Table}
 use Rattle.rules.specs.declared.Pairing.{Pairing}
 

@@ -5,12 +5,10 @@ use Rattle.rules.specs.Limits.{most_number, most_key_id, least_header, most_frag
 use Rattle.rules.specs.Header.{header_length, address2, priority, protected, set_fragment, wrong_kind}
 use Rattle.rules.specs.Mode.{added}
 use Rattle.rules.specs.Records.{sound_sender, with_last}
-use Rattle.rules.specs.Answers.{Test, ◌⇒◌, in_order, first_that_applies, outside, written}
+use Rattle.rules.specs.Answers.{Answer, Done, Refused, Test, ◌⇒◌, in_order, first_that_applies, outside, written}
 use Rattle.rules.specs.Tests.{record_test, header_tests, room_test, address_test, left_test}
 use Rattle.rules.specs.Sealing.{sealed_frame}
 use Rattle.rules.specs.declared.Sender.{Sender}
-use Rattle.rules.specs.declared.Answer.{Answer}
-use Rattle.rules.specs.declared.Answer.TheVariants.{Done, Refused}
 
 -- the message of a frame: all after its header
 unfoldable pub message : List ℕ → List ℕ

@@ -1,13 +1,12 @@
 -- Whole lists of calls on a table: each takes the table that the call before it handed back, refused or not.
 use Rattle.std.specs.Prelude.{◌≡◌, Bool, false, cond, ◌&&◌, List, [], ◌∷◌, ℕ, ◌<◌, eqb, length, take, get_or}
 use Rattle.octets.specs.Octets.{Octets}
-use Rattle.rules.specs.Answers.{answer_number}
+use Rattle.rules.specs.Answers.{Answer, answer_number}
 use Rattle.rules.specs.Calls.{Call, no_call}
 use Rattle.rules.specs.Sending.{SenderCall, sealing}
 use Rattle.rules.specs.Table.{is_place, place_of}
 use Rattle.rules.specs.Adding.{add_place, add_answer, add_next, remove_answer, remove_next}
 use Rattle.rules.specs.Serving.{seal_place, seal_comes, table_seal_answer, table_seal_next, table_seal_output, open_place, open_comes, table_open_answer, table_open_next, table_open_output}
-use Rattle.rules.specs.declared.Answer.{Answer}
 use Rattle.rules.specs.declared.Table.{Table}
 use Rattle.rules.specs.declared.Triple.{Triple}
 use Rattle.rules.specs.declared.Pairing.{Pairing}

@@ -4,14 +4,12 @@ use Rattle.rules.specs.Limits.{count_limit}
 use Rattle.rules.specs.Header.{priority}
 use Rattle.rules.specs.Nonce.{number}
 use Rattle.rules.specs.Mode.{added}
-use Rattle.rules.specs.Answers.{first_that_applies, among, answer_number}
+use Rattle.rules.specs.Answers.{Answer, Done, Refused, first_that_applies, among, answer_number}
 use Rattle.rules.specs.Records.{receiver_fits}
 use Rattle.rules.specs.Tests.{replay_test, code_test, spent_test}
 use Rattle.rules.specs.Table.{entry_at, sound_table, is_place, place_of}
 use Rattle.rules.specs.Adding.{key_place, free_place, add_answer, add_next, remove_answer, remove_next}
 use Rattle.rules.specs.Serving.{seal_place, table_seal_tests, table_seal_answer, table_seal_next, table_seal_output, open_place, table_open_tests, table_open_answer, opened_at, table_open_next, table_open_output}
-use Rattle.rules.specs.declared.Answer.{Answer}
-use Rattle.rules.specs.declared.Answer.TheVariants.{Done, Refused}
 use Rattle.rules.specs.declared.Table.{Table}
 use Rattle.rules.specs.declared.Triple.{Triple}
 use Rattle.rules.specs.declared.Pairing.{Pairing}

@@ -8,7 +8,7 @@ use Rattle.rules.specs.Adding.{add_place, add_answer, add_next}
 use Rattle.rules.specs.Calls.{open_run}
 use Rattle.rules.specs.Sending.{send_run}
 use Rattle.rules.specs.TableCalls.{TableCall, lent, table_run, call_at, before, table_answer_at, table_output_at, OctetCalls, seals_at, opens_at, own_sealings, own_openings, Unchanged}
-use Rattle.rules.specs.declared.Answer.TheVariants.{Done}
+use Rattle.rules.specs.Answers.{Done}
 use Rattle.rules.specs.declared.Entry.{Entry}
 use Rattle.rules.specs.declared.Table.{Table}
 use Rattle.rules.specs.declared.Pairing.{Pairing}

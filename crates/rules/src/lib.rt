@@ -1,6 +1,10 @@
 // The records and answers of documents 01 and 02 as types. Their rules, and what follows from them over whole lists of calls, are
-// in specs/ and proofs/; this crate has no function.
+// in specs/ and proofs/.
 #![tactic(auto)]
+
+mod answer; // answer.rt: what a call answers
+
+pub use answer::{Refusal, Success};
 
 // The octets of a temporal key and of an address, and how many priorities there are.
 pub const KEY_OCTETS: usize = 16;
@@ -21,7 +25,7 @@ pub struct Sender {
     pub key: [u8; KEY_OCTETS],
     pub key_id: u8,
     pub address: [u8; ADDRESS_OCTETS],
-    // The last packet number used, 0 where there is none.
+    // The last packet number used, 0 where there is none: the next is one more.
     pub last: u64,
 }
 
@@ -31,9 +35,10 @@ pub struct Receiver {
     pub key: [u8; KEY_OCTETS],
     pub key_id: u8,
     pub peer: [u8; ADDRESS_OCTETS],
-    // The size of its windows, 1 or 16.
+    // The size of its windows, 1 or 16. A number and no enum: a record of another size is refused, and `RefusedUnsound` of `SizeOne` speaks of it.
     pub size: u8,
-    // The replay counter of each priority: the greatest number opened.
+    // The replay counter of each priority: the greatest number opened. It and `seen` are two arrays and not one of windows, since theorems
+    // (`SizeOne.OldRule`, `windows_kept` of `Demand1`), the layout of a buffer and the export bench_ccmp_open speak of each by itself.
     pub replay: [u64; PRIORITIES],
     // Which of the 16 numbers up to it were opened: bit i is of the number i below the greatest.
     pub seen: [u16; PRIORITIES],
@@ -41,7 +46,7 @@ pub struct Receiver {
 }
 
 // What a receiver has for one priority.
-#[derive(Clone, Copy)]
+#[derive(Clone, Copy, PartialEq, Eq, Debug)]
 pub struct Window {
     pub size: u8,
     pub greatest: u64,
@@ -49,7 +54,7 @@ pub struct Window {
 }
 
 // How many opening calls were answered so, modulo 2^32.
-#[derive(Clone, Copy)]
+#[derive(Clone, Copy, PartialEq, Eq, Debug)]
 pub struct Counts {
     pub format_errors: u32,
     pub replays: u32,
@@ -65,7 +70,8 @@ pub struct Table {
     pub format_errors: u32,
 }
 
-// A sender and a receiver in one, with one key and one key ID. What it holds while it is not in use plays no part.
+// A sender and a receiver in one, with one key and one key ID. What it holds while it is not in use plays no part: a flag and no Option, since
+// table_limits tries free entries that hold something, and `Tables` speaks of them.
 #[derive(Clone, Copy)]
 pub struct Entry {
     pub used: bool,
@@ -78,7 +84,7 @@ pub struct Entry {
 }
 
 // By what an entry is found.
-#[derive(Clone, Copy)]
+#[derive(Clone, Copy, PartialEq, Eq, Debug)]
 pub struct Triple {
     pub own: [u8; ADDRESS_OCTETS],
     pub peer: [u8; ADDRESS_OCTETS],
@@ -97,9 +103,9 @@ pub struct Pairing {
 }
 
 // What a joining call takes and hands back, all zeros where no message is held.
-#[derive(Clone, Copy)]
+#[derive(Clone, Copy, PartialEq, Eq)]
 pub struct Joiner {
-    // The message so far, in the first `length` octets.
+    // The message so far, in the first `length` octets: no heap here, and joining answers 1 where `length` is over the most (`sound_joiner`).
     pub held: [u8; MOST_MESSAGE],
     pub length: usize,
     // The fragment that came last.
@@ -107,7 +113,7 @@ pub struct Joiner {
 }
 
 // By what a fragment is told from others.
-#[derive(Clone, Copy)]
+#[derive(Clone, Copy, PartialEq, Eq, Debug)]
 pub struct Fragment {
     // A2.
     pub address: [u8; ADDRESS_OCTETS],
@@ -120,7 +126,7 @@ pub struct Fragment {
 }
 
 // What a frame says of its own header.
-#[derive(Clone, Copy)]
+#[derive(Clone, Copy, PartialEq, Eq, Debug)]
 pub struct Header {
     // H.
     pub length: usize,
@@ -129,12 +135,4 @@ pub struct Header {
     pub priority: u8,
     // The octets of the authenticated data.
     pub data: usize,
-}
-
-#[derive(Clone, Copy)]
-pub enum Answer {
-    // The packet number, the priority and the octets written.
-    Done(u64, u8, usize),
-    // The number that documents 01 and 02 give the refusal.
-    Refused(u8),
 }
