@@ -1,11 +1,10 @@
 -- What CCM answers and writes, as the text and the body of the mode.
-use Rattle.std.proofs.Common.{◌≡◌, ℕ, ◌+◌, ◌-◌, ◌≤◌, true, false, not, List, ◌++◌, length, drop, refl, ap, ◌∙◌, arith, le-leb}
+use Rattle.std.proofs.Common.{◌≡◌, Bool, is_some, ℕ, ◌+◌, ◌-◌, ◌≤◌, not, List, ◌++◌, length, drop, refl, ap, ◌∙◌, arith, le-leb}
 use mathlib.Core.Option.{Option, none, some}
 use Rattle.octets.specs.Options.{contents, is_none}
 use Rattle.aes.specs.KeyExpansion.{aes128}
 use Rattle.ccm.specs.Ccm.{sealed, opened}
 use Rattle.ccm.specs.Room.{fitting, outcome, written}
-use Rattle.ccm.specs.declared.Outcome.TheVariants as of
 use Rattle.rules.specs.Limits.{least_data, most_data, most_body}
 use Rattle.rules.specs.Mode.{code_octets, sealed_text, opened_body}
 use Rattle.rules.proofs.Mode.{text_length, text_seals, text_is}
@@ -17,6 +16,10 @@ fits room (some t) h = rw (le-leb (length t) (length room) (h t refl))
 written_is : (room : List ℕ) (o : Option (List ℕ)) → written room o ≡ contents o ++ drop (length (contents o)) room
 written_is room none = refl
 written_is room (some t) = refl
+
+some_is_not_none : (o : Option (List ℕ)) → is_some (outcome o) ≡ not (is_none o)
+some_is_not_none none = refl
+some_is_not_none (some t) = refl
 
 module _ (key N a room : List ℕ) where
   pub text_put : (m out : List ℕ) → least_data ≤ length a → length a ≤ most_data → length m ≤ most_body → length m + code_octets ≤ length room
@@ -39,18 +42,7 @@ module _ (key N a room : List ℕ) where
     unfolding opened_body
     body_put out e = e ∙ ap (written room) body_fits ∙ written_is room (opened_body key N a t)
 
-    pub none_told : of.Refused ≡ outcome (fitting room (opened (aes128 key) code_octets N a t)) → false ≡ not (is_none (opened_body key N a t))
+    -- whether there is a body, by whether CCM's answer tells one
+    pub told : (r : Bool) → r ≡ is_some (outcome (fitting room (opened (aes128 key) code_octets N a t))) → r ≡ not (is_none (opened_body key N a t))
     unfolding opened_body
-    none_told e = go (opened_body key N a t) (e ∙ ap outcome body_fits)
-      where
-        go : (o : Option (List ℕ)) → of.Refused ≡ outcome o → false ≡ not (is_none o)
-        go none q = refl
-        go (some m) q = absurd (let z : ◌≡◌ {A = ℕ} 0 1 = cc in omega arith)
-
-    pub some_told : (n : ℕ) → of.Done n ≡ outcome (fitting room (opened (aes128 key) code_octets N a t)) → true ≡ not (is_none (opened_body key N a t))
-    unfolding opened_body
-    some_told n e = go (opened_body key N a t) (e ∙ ap outcome body_fits)
-      where
-        go : (o : Option (List ℕ)) → of.Done n ≡ outcome o → true ≡ not (is_none o)
-        go none q = absurd (let z : ◌≡◌ {A = ℕ} 0 1 = cc in omega arith)
-        go (some m) q = refl
+    told r e = e ∙ ap (λ (o : Option (List ℕ)). is_some (outcome o)) body_fits ∙ some_is_not_none (opened_body key N a t)

@@ -1,11 +1,10 @@
 // Document 01's frames sealed and opened, proved equal to the rules.
 #![tactic(auto)]
 
-use rules::{Answer, Receiver, Sender};
+use rules::{Receiver, Refusal, Sender, Success};
 
-mod header; // header.rt: the header of a frame
-mod nonce; // nonce.rt: the nonce
-mod number; // number.rt: the packet number in the CCMP header
+mod frame; // frame.rt: a frame and its header
+mod number; // number.rt: the CCMP header
 mod window; // window.rt: the replay windows
 mod record; // record.rt: the two records
 mod mode; // mode.rt: CCM over AES
@@ -20,19 +19,19 @@ pub use record::{
     new_receiver, new_sender, receiver_fits, sound_receiver, sound_sender,
 };
 pub use sealing::{LEAST_BODY, MOST_BODY, seal, seal_parts};
-pub use verdict::{Verdict, header_tests, outside};
+pub use verdict::{header_tests, outside};
 pub use window::{LARGE_WINDOW, SMALL_WINDOW};
 
 // What a call on a sender answers, and the sender afterwards.
 #[derive(Clone, Copy)]
 pub struct Sealed {
-    pub answer: Answer,
+    pub answer: Result<Success, Refusal>,
     pub sender: Sender,
 }
 
 // What a call on a receiver answers, and the receiver afterwards.
 #[derive(Clone, Copy)]
 pub struct Opened {
-    pub answer: Answer,
+    pub answer: Result<Success, Refusal>,
     pub receiver: Receiver,
 }

@@ -5,7 +5,6 @@ ghost use Rattle.rules.specs.Limits.{least_data, most_data, most_body};
 ghost use Rattle.rules.specs.Mode.{code_octets, sealed_text, opened_body};
 
 use crate::number::CCMP_HEADER;
-use ccm::Outcome;
 use rules::KEY_OCTETS;
 
 // The octets that sealing adds: the CCMP header and the code.
@@ -39,8 +38,5 @@ pub(crate) fn put_body(
     ensures out_after { out.new ≡ contents (opened_body key nonce aad.now text.now)
         ++ drop (length (contents (opened_body key nonce aad.now text.now))) out.old }
 {
-    match ccm::open(key, nonce, aad, text, out) {
-        Outcome::Refused => false,
-        Outcome::Done(_) => true,
-    }
+    ccm::open(key, nonce, aad, text, out).is_some()
 }

@@ -1,19 +1,20 @@
 // The two records: soundness, fresh records, and the records that answers leave.
-ghost use Rattle.std.specs.Prelude.{◌≡◌, ℕ, ◌<◌, true};
-ghost use Rattle.rules.specs.Limits.{most_number, priorities};
+ghost use Rattle.std.specs.Prelude.{◌≡◌, ◌+◌, ◌<◌, true, IfOk};
+ghost use Rattle.rules.specs.Limits.{priorities};
 ghost use Rattle.rules.specs.Windows.{takes};
-ghost use Rattle.rules.specs.Answers.{told};
+ghost use Rattle.rules.specs.Answers.{Refused, told};
+ghost use Rattle.rules.specs.Refusals.{answer_of};
 ghost use Rattle.rules.specs.Records.{window_of, sound_sender, receiver_fits, sound_receiver, new_sender, new_receiver, fresh_answer, fresh_sender, receiver_answer, fresh_receiver, sender_next, count_of, counted, counts_next, receiver_next};
 
 use crate::window::{LARGE_WINDOW, SMALL_WINDOW, next_window, sound_windows, window_of};
 use crate::{Opened, Sealed};
-use rules::{ADDRESS_OCTETS, Answer, Counts, KEY_OCTETS, PRIORITIES, Receiver, Sender};
+use rules::{ADDRESS_OCTETS, Counts, KEY_OCTETS, PRIORITIES, Receiver, Refusal, Sender, Success};
 
 pub const MOST_NUMBER: u64 = 281474976710655;
 
 pub const MOST_KEY_ID: u8 = 3;
 
-// The counts, each by its number in the rules.
+// The counts, each by its number in the rules: `count_of` and `counted` are public and promise of every number, which an enum would exclude.
 const NO_COUNT: u8 = 0;
 
 pub const FORMAT_COUNT: u8 = 1;
@@ -24,35 +25,25 @@ const DECRYPT_COUNT: u8 = 3;
 
 const OPENED_COUNT: u8 = 4;
 
+#[tactic(auto, unfolding(rules::specs::Records::sound_sender))]
 pub fn sound_sender(s: Sender) -> bool
     ensures { result ≡ sound_sender s }
 {
-    if MOST_KEY_ID < s.key_id {
-        return false;
-    }
-    s.last <= MOST_NUMBER
+    s.key_id <= MOST_KEY_ID && s.last <= MOST_NUMBER
 }
 
 // Whether a receiver may have this key ID and this size of its windows.
 pub fn receiver_fits(key_id: u8, size: u8) -> bool
     ensures { result ≡ receiver_fits key_id size }
 {
-    if MOST_KEY_ID < key_id {
-        return false;
-    }
-    if size == SMALL_WINDOW {
-        return true;
-    }
-    size == LARGE_WINDOW
+    key_id <= MOST_KEY_ID && (size == SMALL_WINDOW || size == LARGE_WINDOW)
 }
 
+#[tactic(auto, unfolding(rules::specs::Records::sound_receiver))]
 pub fn sound_receiver(r: Receiver) -> bool
     ensures { result ≡ sound_receiver r }
 {
-    if !receiver_fits(r.key_id, r.size) {
-        return false;
-    }
-    sound_windows(r)
+    receiver_fits(r.key_id, r.size) && sound_windows(r)
 }
 
 // A sender of these fields that has sealed nothing, whatever its key ID is.
@@ -94,19 +85,19 @@ pub fn new_receiver(
 
 // A sender that has sealed nothing. A key ID over 3 is refused with 1 and gives zeros.
 pub fn fresh_sender(key: [u8; KEY_OCTETS], key_id: u8, address: [u8; ADDRESS_OCTETS]) -> Sealed
-    ensures answer_value { told result.answer ≡ told (fresh_answer key_id) }
+    ensures answer_value { told (answer_of result.answer) ≡ told (fresh_answer key_id) }
     ensures sender_value { result.sender ≡ fresh_sender key key_id address }
 {
     if MOST_KEY_ID < key_id {
         let sender = new_sender([0; KEY_OCTETS], 0, [0; ADDRESS_OCTETS]);
         return Sealed {
-            answer: Answer::Refused(1),
+            answer: Err(Refusal::Record),
             sender,
         };
     }
     let sender = new_sender(key, key_id, address);
     Sealed {
-        answer: Answer::Done(0, 0, 0),
+        answer: Ok(Success::NO_FRAME),
         sender,
     }
 }
@@ -119,19 +110,19 @@ pub fn fresh_receiver(
     peer: [u8; ADDRESS_OCTETS],
     size: u8,
 ) -> Opened
-    ensures answer_value { told result.answer ≡ told (receiver_answer key_id size) }
+    ensures answer_value { told (answer_of result.answer) ≡ told (receiver_answer key_id size) }
     ensures receiver_value { result.receiver ≡ fresh_receiver key key_id peer size }
 {
     if !receiver_fits(key_id, size) {
         let receiver = new_receiver([0; KEY_OCTETS], 0, [0; ADDRESS_OCTETS], 0);
         return Opened {
-            answer: Answer::Refused(1),
+            answer: Err(Refusal::Record),
             receiver,
         };
     }
     let receiver = new_receiver(key, key_id, peer, size);
     Opened {
-        answer: Answer::Done(0, 0, 0),
+        answer: Ok(Success::NO_FRAME),
         receiver,
     }
 }
@@ -141,7 +132,7 @@ pub fn counted(c: u8, m: u8, v: u32) -> u32
     ensures { result ≡ counted c m v }
 {
     if m == c {
-        return std::num::wrapping_add_u32(v, 1);
+        return v.wrapping_add(1);
     }
     v
 }
@@ -160,7 +151,7 @@ fn counts_after(m: u8, c: Counts) -> Counts
 
 // Which count a refusal moves.
 pub fn count_of(refusal: u8) -> u8
-    ensures { result ≡ count_of (Answer.Refused refusal) }
+    ensures { result ≡ count_of (Refused refusal) }
 {
     match refusal {
         2 | 3 | 4 | 5 | 7 | 8 | 9 => FORMAT_COUNT,
@@ -170,39 +161,38 @@ pub fn count_of(refusal: u8) -> u8
     }
 }
 
-// The receiver after a refusal.
-pub(crate) fn after_refusal(r: Receiver, refusal: u8) -> Receiver
-    ensures { result ≡ receiver_next r (Answer.Refused refusal) }
+// The receiver after an opening call that was answered so: done moves the window of the frame's priority.
+pub(crate) fn after_opening(r: Receiver, answer: Result<Success, Refusal>) -> Receiver
+    requires { IfOk answer (λ x. (x.priority < priorities) × (sound_receiver r ≡ true) × (takes (window_of r x.priority) x.number ≡ true)) }
+    ensures { result ≡ receiver_next r (answer_of answer) }
 {
-    let before = r.counts;
-    let counts = counts_after(count_of(refusal), before);
-    let mut s = r;
-    s.counts = counts;
-    s
+    match answer {
+        Ok(x) => {
+            let at = usize::from(x.priority);
+            let w = next_window(window_of(r, x.priority), x.number);
+            let counts = counts_after(OPENED_COUNT, r.counts);
+            let mut s = Receiver { counts, ..r };
+            s.replay[at] = w.greatest;
+            s.seen[at] = w.seen;
+            s
+        }
+        Err(refusal) => {
+            let counts = counts_after(count_of(refusal.number()), r.counts);
+            Receiver { counts, ..r }
+        }
+    }
 }
 
-// The receiver after it has opened number n of priority p.
-pub(crate) fn after_opening(r: Receiver, n: u64, p: u8) -> Receiver
-    requires { (p < priorities) × (sound_receiver r ≡ true) × (takes (window_of r p) n ≡ true) }
-    ensures { (k : ℕ) → result ≡ receiver_next r (Answer.Done n p k) }
+// The sender after a sealing call that was answered so: the number of a frame that was sealed is its last.
+pub(crate) fn after_sealing(s: Sender, answer: Result<Success, Refusal>) -> Sender
+    requires { IfOk answer (λ x. x.number ≡ s.last + 1) }
+    ensures { result ≡ sender_next s (answer_of answer) }
 {
-    let at = p as usize;
-    let w = next_window(window_of(r, p), n);
-    let before = r.counts;
-    let counts = counts_after(OPENED_COUNT, before);
-    let mut s = r;
-    s.replay[at] = w.greatest;
-    s.seen[at] = w.seen;
-    s.counts = counts;
-    s
-}
-
-// The sender after it has sealed a frame.
-pub(crate) fn after_sealing(s: Sender) -> Sender
-    requires { s.last < most_number }
-    ensures { (n p k : ℕ) → result ≡ sender_next s (Answer.Done n p k) }
-{
-    let mut t = s;
-    t.last = s.last + 1;
-    t
+    match answer {
+        Ok(x) => Sender {
+            last: x.number,
+            ..s
+        },
+        Err(_) => s,
+    }
 }

@@ -14,9 +14,7 @@ use Rattle.rules.specs.declared.Receiver.{Receiver}
 use Rattle.rules.proofs.Fields.{priority_below}
 use Rattle.rules.proofs.Passing.{inside}
 use Rattle.rules.proofs.Steps.{sound_size}
-use Rattle.ccmp.specs.Verdict.{verdict}
-use Rattle.ccmp.specs.declared.verdict.Verdict.{Verdict}
-use Rattle.ccmp.specs.declared.verdict.Verdict.TheVariants.{Refuse, Pass}
+use Rattle.ccmp.specs.Verdict.{Verdict, Refuse, Pass, verdict}
 use Rattle.ccmp.proofs.Headers.{fields_of}
 use Rattle.ccmp.proofs.Keys.{extended_not, extended_set, id_other, id_same}
 use Rattle.ccmp.proofs.Verdicts.{Headed, headed}
@@ -110,80 +108,66 @@ module _ (r : Receiver) (f : List ℕ) (h : Header) (room : ℕ) (sound : sound_
                   t.is,
                 )
 
-pub overflow_sub-frame : goal.overflow_sub-frame
-overflow_sub-frame c =
-    let a = c.args in
-    let t = headed 0 a.frame.now a.header c.requires.1 in
-    omega (arith, (fields_of a.frame.now a.header t.is).length_is, t.whole)
-
 pub returns-then-outside : goal.returns-then-outside
 returns-then-outside c =
     let a = c.args in
-    found_5 a.r a.frame.now a.header a.room c.requires.0 (headed 0 a.frame.now a.header c.requires.1) (sym c.outside.ensures ∙ c.if-outside.true)
+    found_5 a.r a.frame.octets.now a.frame.header a.room c.requires.0 (headed 0 a.frame.octets.now a.frame.header c.requires.1) (sym c.outside.ensures ∙ c.if-outside.true)
 
-pub returns-then-room-frame : goal.returns-then-room-frame
-returns-then-room-frame c =
+pub returns-then-room-octets : goal.returns-then-room-octets
+returns-then-room-octets c =
     let a = c.args in
-    found_6 a.r a.frame.now a.header a.room c.requires.0 (headed 0 a.frame.now a.header c.requires.1)
-    (sym c.outside.ensures ∙ c.if-outside.false) c.if-room-frame.true
+    found_6 a.r a.frame.octets.now a.frame.header a.room c.requires.0 (headed 0 a.frame.octets.now a.frame.header c.requires.1)
+    (sym c.outside.ensures ∙ c.if-outside.false) c.if-room-octets.true
 
 pub returns-then-not-equal : goal.returns-then-not-equal
 unfolding address2
 returns-then-not-equal c =
     let a = c.args in
-    found_7 a.r a.frame.now a.header a.room c.requires.0 (headed 0 a.frame.now a.header c.requires.1)
-    (sym c.outside.ensures ∙ c.if-outside.false) c.if-room-frame.false (sym c.equal.ensures ∙ c.if-not-equal.true)
+    found_7 a.r a.frame.octets.now a.frame.header a.room c.requires.0 (headed 0 a.frame.octets.now a.frame.header c.requires.1)
+    (sym c.outside.ensures ∙ c.if-outside.false) c.if-room-octets.false (sym c.equal.ensures ∙ c.if-not-equal.true)
 
 pub returns-then-octet-eq0 : goal.returns-then-octet-eq0
 unfolding address2
 returns-then-octet-eq0 c =
     let a = c.args in
-    found_8 a.r a.frame.now a.header a.room c.requires.0 (headed 0 a.frame.now a.header c.requires.1)
-    (sym c.outside.ensures ∙ c.if-outside.false) c.if-room-frame.false (sym c.equal.ensures ∙ c.if-not-equal.false)
-    (c.type_inv.frame (a.header.length + 3)).fits c.if-octet-eq0.true
+    found_8 a.r a.frame.octets.now a.frame.header a.room c.requires.0 (headed 0 a.frame.octets.now a.frame.header c.requires.1)
+    (sym c.outside.ensures ∙ c.if-outside.false) c.if-room-octets.false (sym c.equal.ensures ∙ c.if-not-equal.false)
+    (omega arith) c.if-octet-eq0.true
 
 pub returns-then-octet-r : goal.returns-then-octet-r
 unfolding address2
 returns-then-octet-r c =
     let a = c.args in
-    found_9 a.r a.frame.now a.header a.room c.requires.0 (headed 0 a.frame.now a.header c.requires.1)
-    (sym c.outside.ensures ∙ c.if-outside.false) c.if-room-frame.false (sym c.equal.ensures ∙ c.if-not-equal.false)
-    (c.type_inv.frame (a.header.length + 3)).fits c.if-octet-eq0.false c.if-octet-r.true
+    found_9 a.r a.frame.octets.now a.frame.header a.room c.requires.0 (headed 0 a.frame.octets.now a.frame.header c.requires.1)
+    (sym c.outside.ensures ∙ c.if-outside.false) c.if-room-octets.false (sym c.equal.ensures ∙ c.if-not-equal.false)
+    (omega arith) c.if-octet-eq0.false c.if-octet-r.true
 
-pub window_of-w-requires : goal.window_of-w-requires
-window_of-w-requires c =
+pub window_of-requires : goal.window_of-requires
+window_of-requires c =
     let a = c.args in
-    let t = headed 0 a.frame.now a.header c.requires.1 in
-    omega (arith, (fields_of a.frame.now a.header t.is).priority_is, priority_below a.frame.now)
-
-pub number_at-requires : goal.number_at-requires
-number_at-requires c =
-    let a = c.args in
-    let t = headed 0 a.frame.now a.header c.requires.1 in (
-      (fields_of a.frame.now a.header t.is).length_is,
-      omega (arith, long a.r a.frame.now a.header a.room c.requires.0 t (sym c.outside.ensures ∙ c.if-outside.false)),
-    )
+    let t = headed 0 a.frame.octets.now a.frame.header c.requires.1 in
+    omega (arith, (fields_of a.frame.octets.now a.frame.header t.is).priority_is, priority_below a.frame.octets.now)
 
 pub takes-requires : goal.takes-requires
 takes-requires c =
-    rw c.window_of-w.ensures (sound_size c.args.r c.requires.0).1
+    rw c.window_of.ensures (sound_size c.args.r c.requires.0).1
 
 pub returns-then-not-takes : goal.returns-then-not-takes
 unfolding address2
 returns-then-not-takes c =
     let a = c.args in
-    let t = headed 0 a.frame.now a.header c.requires.1 in
-    found_10 a.r a.frame.now a.header a.room c.requires.0 t
-    (sym c.outside.ensures ∙ c.if-outside.false) c.if-room-frame.false (sym c.equal.ensures ∙ c.if-not-equal.false)
-    (c.type_inv.frame (a.header.length + 3)).fits c.if-octet-eq0.false c.if-octet-r.false
-    (rw (← (fields_of a.frame.now a.header t.is).priority_is, ← c.number_at.ensures, ← c.window_of-w.ensures) (sym c.takes.ensures ∙ c.if-not-takes.true))
+    let t = headed 0 a.frame.octets.now a.frame.header c.requires.1 in
+    found_10 a.r a.frame.octets.now a.frame.header a.room c.requires.0 t
+    (sym c.outside.ensures ∙ c.if-outside.false) c.if-room-octets.false (sym c.equal.ensures ∙ c.if-not-equal.false)
+    (omega arith) c.if-octet-eq0.false c.if-octet-r.false
+    (rw (← (fields_of a.frame.octets.now a.frame.header t.is).priority_is, ← c.number.ensures, ← c.window_of.ensures) (sym c.takes.ensures ∙ c.if-not-takes.true))
 
 pub returns : goal.returns
 unfolding address2
 returns c =
     let a = c.args in
-    let t = headed 0 a.frame.now a.header c.requires.1 in
-    found_none a.r a.frame.now a.header a.room c.requires.0 t
-    (sym c.outside.ensures ∙ c.if-outside.false) c.if-room-frame.false (sym c.equal.ensures ∙ c.if-not-equal.false)
-    (c.type_inv.frame (a.header.length + 3)).fits c.if-octet-eq0.false c.if-octet-r.false
-    (rw (← (fields_of a.frame.now a.header t.is).priority_is, ← c.number_at.ensures, ← c.window_of-w.ensures) (sym c.takes.ensures ∙ c.if-not-takes.false))
+    let t = headed 0 a.frame.octets.now a.frame.header c.requires.1 in
+    found_none a.r a.frame.octets.now a.frame.header a.room c.requires.0 t
+    (sym c.outside.ensures ∙ c.if-outside.false) c.if-room-octets.false (sym c.equal.ensures ∙ c.if-not-equal.false)
+    (omega arith) c.if-octet-eq0.false c.if-octet-r.false
+    (rw (← (fields_of a.frame.octets.now a.frame.header t.is).priority_is, ← c.number.ensures, ← c.window_of.ensures) (sym c.takes.ensures ∙ c.if-not-takes.false))

@@ -8,10 +8,8 @@ use Rattle.rules.specs.Answers.{outside}
 use Rattle.rules.specs.Sealing.{seal_tests}
 use Rattle.rules.specs.declared.Header.{Header}
 use Rattle.rules.specs.declared.Sender.{Sender}
-use Rattle.ccmp.specs.Verdict.{verdict}
+use Rattle.ccmp.specs.Verdict.{Verdict, Refuse, Pass, verdict}
 use Rattle.ccmp.specs.Parts.{Heads}
-use Rattle.ccmp.specs.declared.verdict.Verdict.{Verdict}
-use Rattle.ccmp.specs.declared.verdict.Verdict.TheVariants.{Refuse, Pass}
 use Rattle.ccmp.proofs.Verdicts.{Headed}
 use Rattle.ccmp.proofs.Parts.{whole_header, whole_address, head_exact, headed_whole}
 use Rattle.ccmp.proofs.sealing.later_tests.Goals as goal
@@ -67,30 +65,30 @@ module _ (s : Sender) (head body : List ℕ) (h : Header) (room : ℕ) (sound : 
 pub returns-then-outside : goal.returns-then-outside
 returns-then-outside c =
     let a = c.args in
-    found_5 a.s a.head.now a.body.now a.header a.room c.requires.0 c.requires.1 (sym c.outside.ensures ∙ c.if-outside.true)
+    found_5 a.s a.head.frame.octets.now a.body.now a.head.frame.header a.room c.requires a.head.heads (sym c.outside.ensures ∙ c.if-outside.true)
 
-pub returns-then-room-head : goal.returns-then-room-head
-returns-then-room-head c =
+pub returns-then-room-octets : goal.returns-then-room-octets
+returns-then-room-octets c =
     let a = c.args in
-    found_6 a.s a.head.now a.body.now a.header a.room c.requires.0 c.requires.1 (sym c.outside.ensures ∙ c.if-outside.false) c.if-room-head.true
+    found_6 a.s a.head.frame.octets.now a.body.now a.head.frame.header a.room c.requires a.head.heads (sym c.outside.ensures ∙ c.if-outside.false) c.if-room-octets.true
 
 pub returns-then-not-equal : goal.returns-then-not-equal
 unfolding address2
 returns-then-not-equal c =
     let a = c.args in
-    found_7 a.s a.head.now a.body.now a.header a.room c.requires.0 c.requires.1 (sym c.outside.ensures ∙ c.if-outside.false) c.if-room-head.false
+    found_7 a.s a.head.frame.octets.now a.body.now a.head.frame.header a.room c.requires a.head.heads (sym c.outside.ensures ∙ c.if-outside.false) c.if-room-octets.false
     (sym c.equal.ensures ∙ c.if-not-equal.true)
 
 pub returns-then-s-eq-MOST_NUMBER : goal.returns-then-s-eq-MOST_NUMBER
 unfolding address2
 returns-then-s-eq-MOST_NUMBER c =
     let a = c.args in
-    found_12 a.s a.head.now a.body.now a.header a.room c.requires.0 c.requires.1 (sym c.outside.ensures ∙ c.if-outside.false) c.if-room-head.false
+    found_12 a.s a.head.frame.octets.now a.body.now a.head.frame.header a.room c.requires a.head.heads (sym c.outside.ensures ∙ c.if-outside.false) c.if-room-octets.false
     (sym c.equal.ensures ∙ c.if-not-equal.false) c.if-s-eq-MOST_NUMBER.true
 
 pub returns : goal.returns
 unfolding address2
 returns c =
     let a = c.args in
-    found_none a.s a.head.now a.body.now a.header a.room c.requires.0 c.requires.1 (sym c.outside.ensures ∙ c.if-outside.false) c.if-room-head.false
+    found_none a.s a.head.frame.octets.now a.body.now a.head.frame.header a.room c.requires a.head.heads (sym c.outside.ensures ∙ c.if-outside.false) c.if-room-octets.false
     (sym c.equal.ensures ∙ c.if-not-equal.false) c.if-s-eq-MOST_NUMBER.false

@@ -13,10 +13,10 @@ pub returns-then-n-w : goal.returns-then-n-w
 returns-then-n-w c =
     next_late c.args.w c.args.n c.requires.0 c.requires.2 c.if-n-w.true c.requires.1
 
-pub returns-then-up-w : goal.returns-then-up-w
-returns-then-up-w c =
-    next_near c.args.w c.args.n c.requires.0 c.if-n-w.false c.if-up-w.true
+pub returns-then-up-from : goal.returns-then-up-from
+returns-then-up-from c =
+    next_near c.args.w c.args.n c.requires.0 c.if-n-w.false (rw c.from.ensures at c.if-up-from.true)
 
-pub returns-else-up-w : goal.returns-else-up-w
-returns-else-up-w c =
-    next_far c.args.w c.args.n c.requires.0 c.if-n-w.false c.if-up-w.false
+pub returns-else-up-from : goal.returns-else-up-from
+returns-else-up-from c =
+    next_far c.args.w c.args.n c.requires.0 c.if-n-w.false (rw c.from.ensures at c.if-up-from.false)

@@ -12,4 +12,4 @@ pub returns-then-w-ne1 : goal.returns-then-w-ne1
 returns-then-w-ne1 c = unsound_top c.args.w c.if-w-eq0.false c.if-w-gt-MOST_NUMBER.false c.if-w-ne1.true
 
 pub returns : goal.returns
-returns c = rw c.places.ensures (sound_rest c.args.w c.if-w-eq0.false c.if-w-gt-MOST_NUMBER.false c.if-w-ne1.false)
+returns c = rw (c.places.ensures, c.from.ensures) (sound_rest c.args.w c.if-w-eq0.false c.if-w-gt-MOST_NUMBER.false c.if-w-ne1.false)

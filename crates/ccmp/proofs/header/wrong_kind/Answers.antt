@@ -1,8 +1,0 @@
-use Rattle.rules.specs.Header.{wrong_kind}
-use Rattle.ccmp.proofs.Masks.{test_4f}
-use Rattle.ccmp.proofs.header.wrong_kind.Goals as goal
-
--- The mask holds the bits of the version, of the type and of no data, so one comparison tests all three.
-pub returns : goal.returns
-unfolding wrong_kind
-returns c = test_4f _ (c.type_inv.frame 0).fits
