@@ -1,9 +1,10 @@
 -- How many fragments a message makes, by a division that rounds up, and the octets that they have sealed.
 use mathlib.Core.Path.{◌≡◌, sym, ap₂, ◌∙◌}
 use mathlib.Core.List.{List}
-use Prim.Native.Nat.{ℕ, ◌+◌, ◌-◌, ◌*◌, ◌/◌, ◌%◌, ◌<◌, ◌≤◌}
-use native.Mathlib.Nat.{div-add-mod', mod-lt, mul-le-mul}
+use Prim.Native.Nat.{ℕ, ◌+◌, ◌-◌, ◌*◌, ◌/◌, ◌%◌, ◌<◌, ◌≤◌, min}
+use native.Mathlib.Nat.{mul-le-mul}
 use native.Mathlib.Omega.{arith}
+use Rattle.std.proofs.lemmas.Grind.{div_ceil_times}
 use lib.ListN.{length, length-drop}
 use Rattle.rules.specs.Limits.{most_header, most_fragments}
 use Rattle.rules.specs.Header.{header_length}
@@ -21,13 +22,12 @@ module _ (size : ℕ) (f : List ℕ) (h : ℕ) (cut : Cut size f h) where
   pub message_is : length (message f) ≡ length f - h
   message_is = omega (arith, message_size f, cut.header)
 
-  pub divided : (length f - h + size - 1) / size ≡ length (fragments size f)
+  pub divided : (length f - h) / size + min 1 ((length f - h) % size) ≡ length (fragments size f)
   divided =
-      let x : ℕ = length f - h + size - 1 in
-      let q : ℕ = x / size in
-      let whole : q * size + x % size ≡ x = div-add-mod' x size in
-      let rest : x % size < size = mod-lt x (omega (arith, cut.fit.least_size_lem)) in
-      sym (fragments_count size f ∙ count_is size f cut.fit.few q (omega (arith, message_is)) (omega (arith, message_is, cut.fit.least_size_lem)))
+      let x : ℕ = length f - h in
+      let q : ℕ = x / size + min 1 (x % size) in
+      let t : (x ≤ q * size) × (q * size < x + size) = div_ceil_times x size (omega (arith, cut.fit.least_size_lem)) in
+      sym (fragments_count size f ∙ count_is size f cut.fit.few q (omega (arith, message_is, t.0)) (omega (arith, message_is, t.1)))
 
   pub most_count : length (fragments size f) ≤ most_fragments
   most_count = omega (arith, fragments_count size f, pieces_count size f)

@@ -10,16 +10,16 @@ use Rattle.rules.specs.Answers.{told, none_applies}
 use Rattle.rules.specs.Splitting.{fragments, sealed_frames, sealed_length, split_tests, split_answer, splitter_next, split_next, split_output}
 use Rattle.rules.specs.declared.Header.{Header}
 use Rattle.rules.specs.declared.Sender.{Sender}
-use Rattle.rules.specs.declared.Answer.{Answer}
-use Rattle.rules.specs.declared.Answer.TheVariants.{Done, Refused}
+use Rattle.rules.specs.Answers.{Answer}
+use Rattle.rules.specs.Answers.{Done, Refused}
 use Rattle.rules.proofs.Passing.{all_done}
-use Rattle.ccmp.specs.Verdict.{verdict}
-use Rattle.ccmp.specs.declared.verdict.Verdict.TheVariants.{Refuse}
+use Rattle.ccmp.specs.Verdict.{Refuse, verdict}
 use Rattle.ccmp.proofs.Verdicts.{refused}
 
 -- what a call hands back: its answer, the sender and the output
-abbrev Split : Sender → ℕ → List ℕ → List ℕ → Answer → Sender → List ℕ → Type 0
-Split s size f o a t out = (told a ≡ told (split_answer s size f o)) × ((t ≡ split_next s size f o) × (out ≡ split_output s size f o))
+abbrev pub Split : Sender → ℕ → List ℕ → List ℕ → Answer → Sender → List ℕ → Type 0
+Split s size f o a t out =
+    record { answer_value : told a ≡ told (split_answer s size f o); sender_value : t ≡ split_next s size f o; out_after : out ≡ split_output s size f o }
 
 module _ (s : Sender) (size : ℕ) (f o : List ℕ) where
   abbrev done : Answer
@@ -29,7 +29,7 @@ module _ (s : Sender) (size : ℕ) (f o : List ℕ) where
   unfolding split_answer splitter_next split_output
   split_refused h n e =
       let a : split_answer s size f o ≡ Refused n = refused (split_tests s size f (length o)) [] h done n e in
-      rw a (refl, (refl, refl))
+      rw a record { answer_value = refl; sender_value = refl; out_after = refl }
 
   pub split_gives : (t : Sender) (p k : ℕ) (out : List ℕ) → none_applies (split_tests s size f (length o)) ≡ true → p ≡ priority f → k ≡ sealed_length (fragments size f)
       → t ≡ with_last s (s.last + length (fragments size f)) → out ≡ sealed_frames s (s.last + 1) (fragments size f) ++ drop (sealed_length (fragments size f)) o
@@ -37,4 +37,4 @@ module _ (s : Sender) (size : ℕ) (f o : List ℕ) where
   unfolding split_answer splitter_next split_output
   split_gives t p k out passes ep ek et eo =
       let a : split_answer s size f o ≡ done = all_done (split_tests s size f (length o)) done passes in
-      rw a (ap₂ (λ (x y : ℕ). told (Done (s.last + 1) x y)) ep ek, (et, eo))
+      rw a record { answer_value = ap₂ (λ (x y : ℕ). told (Done (s.last + 1) x y)) ep ek; sender_value = et; out_after = eo }

@@ -91,8 +91,12 @@ module _ (s : Sender) (size : ℕ) (f : List ℕ) (h : ℕ) (o : List ℕ) (is :
       ap (λ (x : List ℕ). length x) (front_next k l)
       ∙ omega (arith, length-append (front k) (sealed_frame s (s.last + 1 + k) (get_or G k [])), front_size k (omega arith), seal_size k l, octets_next k l)
 
-  pub begins : Put s size f h o o s 0 h 0
-  begins = record { reached = omega arith; place = omega arith; moved = rw add-zero; octets = refl; room = refl }
+  -- where a fragment begins
+  pub starts_below : (i : ℕ) → i < length G → h + i * size < length f
+  starts_below i l = omega (arith, (piece_starts size f d.fit.few i).0 (piece_below i l), message_size f, d.whole)
+
+  pub begins : Put s size f h o o s 0 (h + 0 * size) 0
+  begins = record { reached = omega arith; place = refl; moved = rw add-zero; octets = refl; room = refl }
 
   module _ (out : List ℕ) (t : Sender) (i at written : ℕ) (p : Put s size f h o out t i at written) where
     pub out_size : length out ≡ length o
@@ -100,12 +104,12 @@ module _ (s : Sender) (size : ℕ) (f : List ℕ) (h : ℕ) (o : List ℕ) (is :
         let e = ap (λ (x : List ℕ). length x) p.room in
         omega (arith, e, length-append (front i) (drop written o), front_size i p.reached, p.octets, octets_front i G, length-drop written o)
 
-    module _ (below : at < length f) (end : ℕ) (is-end : end ≡ min (at + size) (length f)) where
+    module _ (left : i < length G) (end : ℕ) (is-end : end ≡ min (at + size) (length f)) where
       message_is : length (message f) ≡ length f - h
       message_is = omega (arith, message_size f)
 
-      left : i < length G
-      left = omega (arith, fragments_count size f, (piece_starts size f d.fit.few i).1 (omega (arith, message_is, p.place)))
+      pub below : at < length f
+      below = omega (arith, starts_below i left, p.place)
 
       -- the piece
       piece_is : part f at (end - at) ≡ get_or (pieces size f) i []
@@ -133,7 +137,7 @@ module _ (s : Sender) (size : ℕ) (f : List ℕ) (h : ℕ) (o : List ℕ) (is :
             header = is;
             inside = omega (arith, d.whole);
             numbered = omega (arith, pieces_count size f);
-            begins = omega arith;
+            begins = omega (arith, below);
             ends = omega arith;
             sealable = rw (with_is, p.moved) (part_sealable s size f d i l);
             exact = rw with_is ((is_part s size f d i l).header_is ∙ sym is);
@@ -156,8 +160,8 @@ module _ (s : Sender) (size : ℕ) (f : List ℕ) (h : ℕ) (o : List ℕ) (is :
             length-drop at f,
           )
 
-      pub written_fits : written + (h + (end - at) + added) ≤ length o
-      written_fits = omega (arith, fragment_size, p.octets, octets_next i left, octets_front (suc i) G)
+      pub written_fits : written + (h + (end - at) + added) ≤ length out
+      written_fits = omega (arith, out_size, fragment_size, p.octets, octets_next i left, octets_front (suc i) G)
 
       sealed_is : sealed_frame t (t.last + 1) (fragment_with f h i at end) ≡ sealed_frame s (s.last + 1 + i) (get_or G i [])
       unfolding sealed_frame
@@ -195,13 +199,3 @@ module _ (s : Sender) (size : ℕ) (f : List ℕ) (h : ℕ) (o : List ℕ) (is :
                 ∙ ap₂ (λ (a : List ℕ) (n : ℕ). a ++ drop (written + n) o) (sym (front_next i left)) (ap (λ (n : ℕ). n + added) fragment_size)
                 ∙ ap (λ (n : ℕ). front n ++ drop (written + (h + (end - at) + added)) o) (sym (add-one i));
           }
-
-    pub ends : length f ≤ at → (t ≡ with_last s (s.last + length G)) × (out ≡ sealed_frames s (s.last + 1) G ++ drop (sealed_length G) o)
-    ends past =
-        let done : i ≡ length G
-        = ⊎_elim (λ l. omega (arith, p.reached))
-        (λ l. absurd (omega (arith, (piece_starts size f d.fit.few i).0 (piece_below i l), message_size f, p.place))) (le_or_lt (length G) i) in
-        let all : take i G ≡ G = take_all i G (omega arith) in (
-          p.moved ∙ ap (λ (k : ℕ). with_last s (s.last + k)) done,
-          p.room ∙ ap₂ (λ (fs : List (List ℕ)) (n : ℕ). sealed_frames s (s.last + 1) fs ++ drop n o) all (p.octets ∙ ap sealed_length all),
-        )

@@ -2,6 +2,7 @@ use mathlib.Core.Path.{◌≡◌, sym, ◌∙◌}
 use mathlib.Core.Bool.{true}
 use Prim.Native.Nat.{ℕ, ◌≤◌}
 use borrow.Author.Tests.{le-leb, lt-leb}
+use Rattle.std.proofs.lemmas.Result.{err_from_is_err_and}
 use Rattle.rules.specs.Limits.{most_message}
 use Rattle.rules.specs.Joining.{narrow, sound_joiner}
 use Rattle.rules.specs.declared.Fragment.{Fragment}
@@ -14,32 +15,22 @@ use Rattle.fragments.proofs.joining.join_tests.Goals as goal
 sound : (j : Joiner) (m : ℕ) (x : Fragment) → Has j m x → m ≤ most_message → narrow x ≡ true → sound_joiner j ≡ true
 sound j m x has l e = sound_is j m x has ∙ rw (le-leb _ _ l, e)
 
-pub returns-then-length-gt-MOST_MESSAGE : goal.returns-then-length-gt-MOST_MESSAGE
-returns-then-length-gt-MOST_MESSAGE c j has =
+pub returns-then-standing-gt-MOST_MESSAGE : goal.returns-then-standing-gt-MOST_MESSAGE
+returns-then-standing-gt-MOST_MESSAGE c j has =
     let a = c.args in
-    unsound j a.frame.now a.number a.room (rw (sound_is j a.length a.last has, lt-leb _ _ c.if-length-gt-MOST_MESSAGE.true))
+    unsound j a.frame.now a.number a.room (rw (sound_is j a.standing.length a.standing.last has, lt-leb _ _ c.if-standing-gt-MOST_MESSAGE.true))
 
 pub returns-then-not-narrow : goal.returns-then-not-narrow
 returns-then-not-narrow c j has =
     let a = c.args in
     unsound j a.frame.now a.number a.room
-    (rw (sound_is j a.length a.last has, le-leb _ _ c.if-length-gt-MOST_MESSAGE.false, sym c.narrow.ensures ∙ c.if-not-narrow.true))
+    (rw (sound_is j a.standing.length a.standing.last has, le-leb _ _ c.if-standing-gt-MOST_MESSAGE.false, sym c.narrow.ensures ∙ c.if-not-narrow.true))
 
-pub returns-then-number-gt-MOST_NUMBER : goal.returns-then-number-gt-MOST_NUMBER
-returns-then-number-gt-MOST_NUMBER c j has =
+pub returns-in_err-header : goal.returns-in_err-header
+returns-in_err-header c j has =
     let a = c.args in
-    unsound j a.frame.now a.number a.room
-    (rw (sound j a.length a.last has c.if-length-gt-MOST_MESSAGE.false (sym c.narrow.ensures ∙ c.if-not-narrow.false), lt-leb _ _ c.if-number-gt-MOST_NUMBER.true))
-
-pub later_tests-requires : goal.later_tests-requires
-later_tests-requires c = record {
-  length_le_most_message = (c.if-length-gt-MOST_MESSAGE.false, sym c.narrow.ensures ∙ c.if-not-narrow.false, c.if-number-gt-MOST_NUMBER.false);
-  header_value = c.in-Pass.ensures;
-}
-
-pub returns-in-Refuse : goal.returns-in-Refuse
-returns-in-Refuse c j has =
-    let a = c.args in
-    unheaded j a.frame.now a.number a.room
-    (rw (sound j a.length a.last has c.if-length-gt-MOST_MESSAGE.false (sym c.narrow.ensures ∙ c.if-not-narrow.false), le-leb _ _ c.if-number-gt-MOST_NUMBER.false)) _
-    c.in-Refuse.ensures
+    let p = err_from_is_err_and c.from_residual.result c.from_residual.ensures.1 in
+    rw (p.1, p.2)
+    (unheaded j a.frame.now a.number a.room
+    (rw (sound j a.standing.length a.standing.last has c.if-standing-gt-MOST_MESSAGE.false (sym c.narrow.ensures ∙ c.if-not-narrow.false), le-leb _ _ c.if-number-gt-MOST_NUMBER.false)) _
+    c.in_err-header.ensures)

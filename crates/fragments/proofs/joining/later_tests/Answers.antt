@@ -15,9 +15,7 @@ use Rattle.rules.specs.declared.Fragment.{Fragment}
 use Rattle.rules.specs.declared.Header.{Header}
 use Rattle.rules.specs.declared.Joiner.{Joiner}
 use Rattle.rules.proofs.Joined.{returns_none, returns_all}
-use Rattle.rules.proofs.Passing.{inside}
-use Rattle.ccmp.specs.Verdict.{verdict}
-use Rattle.ccmp.specs.declared.verdict.Verdict.TheVariants.{Pass}
+use Rattle.ccmp.specs.Verdict.{Pass, verdict}
 use Rattle.ccmp.proofs.Headers.{fields_of}
 use Rattle.ccmp.proofs.Verdicts.{headed}
 use Rattle.fragments.specs.Held.{Has}
@@ -64,7 +62,7 @@ pub returns-then-outside : goal.returns-then-outside
 returns-then-outside c j has =
     let a = c.args in
     let r = c.requires in
-    decide a.frame.now a.header r.header_value j a.length a.last has a.number a.room r.length_le_most_message
+    decide a.frame.now a.header r.header_value j a.standing.length a.standing.last has a.number a.room r.sound_value
     true _ _ (sym c.outside.ensures ∙ c.if-outside.true) refl refl
 
 pub fragment_of-next-requires : goal.fragment_of-next-requires
@@ -76,35 +74,28 @@ pub returns-then-not-goes_on : goal.returns-then-not-goes_on
 returns-then-not-goes_on c j has =
     let a = c.args in
     let r = c.requires in
-    decide a.frame.now a.header r.header_value j a.length a.last has a.number a.room r.length_le_most_message
+    decide a.frame.now a.header r.header_value j a.standing.length a.standing.last has a.number a.room r.sound_value
     false true _ (sym c.outside.ensures ∙ c.if-outside.false)
     (strays j a.frame.now a.number false _
-    (on_is a.frame.now a.header r.header_value j a.length a.last has a.number a.room r.length_le_most_message c.fragment_of-next.result c.fragment_of-next.ensures
+    (on_is a.frame.now a.header r.header_value j a.standing.length a.standing.last has a.number a.room r.sound_value c.fragment_of-next.result c.fragment_of-next.ensures
     c.goes_on.result false c.goes_on.ensures c.if-not-goes_on.true) refl) refl
-
-pub overflow_add-total : goal.overflow_add-total
-overflow_add-total c =
-    record { fits = omega (arith, inside least_body most_size (length c.args.frame.now - c.args.header.length) (sym c.outside.ensures ∙ c.if-outside.false), c.held_before.ensures.1, c.requires.length_le_most_message.0) }
 
 pub returns-then-total-gt-MOST_MESSAGE : goal.returns-then-total-gt-MOST_MESSAGE
 returns-then-total-gt-MOST_MESSAGE c j has =
     let a = c.args in
     let r = c.requires in
-    decide a.frame.now a.header r.header_value j a.length a.last has a.number a.room r.length_le_most_message
+    decide a.frame.now a.header r.header_value j a.standing.length a.standing.last has a.number a.room r.sound_value
     false true _ (sym c.outside.ensures ∙ c.if-outside.false)
     (strays j a.frame.now a.number true true
-    (on_is a.frame.now a.header r.header_value j a.length a.last has a.number a.room r.length_le_most_message c.fragment_of-next.result c.fragment_of-next.ensures
+    (on_is a.frame.now a.header r.header_value j a.standing.length a.standing.last has a.number a.room r.sound_value c.fragment_of-next.result c.fragment_of-next.ensures
     c.goes_on.result true c.goes_on.ensures c.if-not-goes_on.false)
     (lt-ltb most_message (length (joined j a.frame.now))
     (omega (
       arith,
       c.if-total-gt-MOST_MESSAGE.true,
-      total_is a.frame.now a.header r.header_value j a.length a.last has a.number a.room r.length_le_most_message c.fragment_of-next.result c.fragment_of-next.ensures
+      total_is a.frame.now a.header r.header_value j a.standing.length a.standing.last has a.number a.room r.sound_value c.fragment_of-next.result c.fragment_of-next.ensures
           c.held_before.result c.held_before.ensures,
     )))) refl
-
-pub has_more-requires : goal.has_more-requires
-has_more-requires c = (headed 1 c.args.frame.now c.args.header c.requires.header_value).long
 
 pub returns-then-has_more : goal.returns-then-has_more
 returns-then-has_more c j has =
@@ -112,9 +103,9 @@ returns-then-has_more c j has =
     let r = c.requires in
     let f = a.frame.now in
     let none = ap length (returns_none j f (eqb-true (more_fragments f) 1 (sym c.has_more.ensures ∙ c.if-has_more.true))) in
-    decide f a.header r.header_value j a.length a.last has a.number a.room r.length_le_most_message
+    decide f a.header r.header_value j a.standing.length a.standing.last has a.number a.room r.sound_value
     false false false (sym c.outside.ensures ∙ c.if-outside.false)
-    (stays f a.header r.header_value j a.length a.last has a.number a.room r.length_le_most_message c.fragment_of-next.result c.fragment_of-next.ensures
+    (stays f a.header r.header_value j a.standing.length a.standing.last has a.number a.room r.sound_value c.fragment_of-next.result c.fragment_of-next.ensures
     c.held_before.result c.held_before.ensures c.goes_on.result c.goes_on.ensures c.if-not-goes_on.false c.if-total-gt-MOST_MESSAGE.false)
     (le-ltb a.room (length (returned j f)) (omega (arith, none)))
 
@@ -123,14 +114,14 @@ returns-then-room-total c j has =
     let a = c.args in
     let r = c.requires in
     let f = a.frame.now in
-    decide f a.header r.header_value j a.length a.last has a.number a.room r.length_le_most_message
+    decide f a.header r.header_value j a.standing.length a.standing.last has a.number a.room r.sound_value
     false false true (sym c.outside.ensures ∙ c.if-outside.false)
-    (stays f a.header r.header_value j a.length a.last has a.number a.room r.length_le_most_message c.fragment_of-next.result c.fragment_of-next.ensures
+    (stays f a.header r.header_value j a.standing.length a.standing.last has a.number a.room r.sound_value c.fragment_of-next.result c.fragment_of-next.ensures
     c.held_before.result c.held_before.ensures c.goes_on.result c.goes_on.ensures c.if-not-goes_on.false c.if-total-gt-MOST_MESSAGE.false)
     (lt-ltb a.room (length (returned j f)) (omega (
       arith,
       c.if-room-total.true,
-      all_is f a.header r.header_value j a.length a.last has a.number a.room r.length_le_most_message c.fragment_of-next.result c.fragment_of-next.ensures
+      all_is f a.header r.header_value j a.standing.length a.standing.last has a.number a.room r.sound_value c.fragment_of-next.result c.fragment_of-next.ensures
           c.held_before.result c.held_before.ensures (no_more f (sym c.has_more.ensures ∙ c.if-has_more.false)),
     )))
 
@@ -139,13 +130,13 @@ returns c j has =
     let a = c.args in
     let r = c.requires in
     let f = a.frame.now in
-    decide f a.header r.header_value j a.length a.last has a.number a.room r.length_le_most_message
+    decide f a.header r.header_value j a.standing.length a.standing.last has a.number a.room r.sound_value
     false false false (sym c.outside.ensures ∙ c.if-outside.false)
-    (stays f a.header r.header_value j a.length a.last has a.number a.room r.length_le_most_message c.fragment_of-next.result c.fragment_of-next.ensures
+    (stays f a.header r.header_value j a.standing.length a.standing.last has a.number a.room r.sound_value c.fragment_of-next.result c.fragment_of-next.ensures
     c.held_before.result c.held_before.ensures c.goes_on.result c.goes_on.ensures c.if-not-goes_on.false c.if-total-gt-MOST_MESSAGE.false)
     (le-ltb a.room (length (returned j f)) (omega (
       arith,
       c.if-room-total.false,
-      all_is f a.header r.header_value j a.length a.last has a.number a.room r.length_le_most_message c.fragment_of-next.result c.fragment_of-next.ensures
+      all_is f a.header r.header_value j a.standing.length a.standing.last has a.number a.room r.sound_value c.fragment_of-next.result c.fragment_of-next.ensures
           c.held_before.result c.held_before.ensures (no_more f (sym c.has_more.ensures ∙ c.if-has_more.false)),
     )))

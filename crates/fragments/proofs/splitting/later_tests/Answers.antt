@@ -15,9 +15,9 @@ use Rattle.rules.specs.Tests.{header_tests}
 use Rattle.rules.specs.Splitting.{message, unfit}
 use Rattle.rules.specs.declared.Header.{Header}
 use Rattle.rules.specs.declared.Sender.{Sender}
+use Rattle.rules.proofs.Fields.{header_range}
 use Rattle.rules.proofs.Splits.{fit}
-use Rattle.ccmp.specs.Verdict.{verdict}
-use Rattle.ccmp.specs.declared.verdict.Verdict.TheVariants.{Pass}
+use Rattle.ccmp.specs.Verdict.{Pass, verdict}
 use Rattle.ccmp.proofs.Headers.{Fields, fields_of}
 use Rattle.ccmp.proofs.Verdicts.{Headed, headed}
 use Rattle.fragments.specs.Cutting.{Cut}
@@ -58,20 +58,31 @@ fresh : (s : Sender) → sound_sender s ≡ true → s.last ≤ most_number
 unfolding sound_sender
 fresh s e = leb-true _ _ (both (leb s.key_id most_key_id) (leb s.last most_number) e).1
 
+pub invariant_of-pieces : goal.invariant_of-pieces
+invariant_of-pieces c =
+    let a = c.args in
+    let f = a.frame.now in
+    let e = c.requires.1 in
+    let l = (fields f a.header e).length_is in
+    record {
+      is = (head f a.header e).is;
+      least = omega (arith, l, header_range f);
+      most = omega (arith, l, header_range f);
+      whole = ends f a.header e;
+      cut = cut f a.header e a.size _ c.unfit.ensures c.if-unfit.false;
+    }
+
 pub overflow_sub-frame : goal.overflow_sub-frame
 overflow_sub-frame c = ends c.args.frame.now c.args.header c.requires.1
 
-pub returns-then-unfit : goal.returns-then-unfit
-returns-then-unfit c =
+pub returns-then-unfit-clause-found : goal.returns-then-unfit-clause-found
+returns-then-unfit-clause-found c =
     let a = c.args in
     let h = head a.frame.now a.header c.requires.1 in
     rw (c.requires.0, h.short, h.kind, h.mark, h.cut, unfit_is a.frame.now a.header c.requires.1 a.size _ _ c.unfit.ensures c.if-unfit.true)
 
-pub sealed_length-requires : goal.sealed_length-requires
-sealed_length-requires c = let a = c.args in cut a.frame.now a.header c.requires.1 a.size _ c.unfit.ensures c.if-unfit.false
-
-pub returns-then-room-sealed_length : goal.returns-then-room-sealed_length
-returns-then-room-sealed_length c =
+pub returns-then-room-sealed_length-clause-found : goal.returns-then-room-sealed_length-clause-found
+returns-then-room-sealed_length-clause-found c =
     let a = c.args in
     let h = head a.frame.now a.header c.requires.1 in
     rw (
@@ -84,12 +95,9 @@ returns-then-room-sealed_length c =
       under a.room _ _ _ c.sealed_length.ensures (lt-ltb _ _ c.if-room-sealed_length.true),
     )
 
-pub slice_bounds-equal-end : goal.slice_bounds-equal-end
-slice_bounds-equal-end c = omega (arith, (head c.args.frame.now c.args.header c.requires.1).long)
-
-pub returns-then-not-equal : goal.returns-then-not-equal
+pub returns-then-not-equal-clause-found : goal.returns-then-not-equal-clause-found
 unfolding address2
-returns-then-not-equal c =
+returns-then-not-equal-clause-found c =
     let a = c.args in
     let h = head a.frame.now a.header c.requires.1 in
     rw (
@@ -106,12 +114,9 @@ returns-then-not-equal c =
 pub overflow_sub-s : goal.overflow_sub-s
 overflow_sub-s c = fresh c.args.s c.requires.0
 
-pub count-requires : goal.count-requires
-count-requires c = let a = c.args in cut a.frame.now a.header c.requires.1 a.size _ c.unfit.ensures c.if-unfit.false
-
-pub returns-then-s-count : goal.returns-then-s-count
+pub returns-then-s-count-clause-found : goal.returns-then-s-count-clause-found
 unfolding address2
-returns-then-s-count c =
+returns-then-s-count-clause-found c =
     let a = c.args in
     let h = head a.frame.now a.header c.requires.1 in
     rw (
@@ -126,9 +131,9 @@ returns-then-s-count c =
       under (most_number - a.s.last) _ _ _ c.count.ensures (lt-ltb _ _ c.if-s-count.true),
     )
 
-pub returns : goal.returns
+pub returns-clause-found : goal.returns-clause-found
 unfolding address2
-returns c =
+returns-clause-found c =
     let a = c.args in
     let h = head a.frame.now a.header c.requires.1 in
     rw (

@@ -10,8 +10,7 @@ use Rattle.rules.specs.Splitting.{fragments, sealed_length, split_tests, Splitta
 use Rattle.rules.specs.declared.Header.{Header}
 use Rattle.rules.specs.declared.Sender.{Sender}
 use Rattle.rules.proofs.Splits.{split_passes}
-use Rattle.ccmp.specs.Verdict.{verdict}
-use Rattle.ccmp.specs.declared.verdict.Verdict.TheVariants.{Pass}
+use Rattle.ccmp.specs.Verdict.{Pass, verdict}
 use Rattle.ccmp.proofs.Headers.{Fields, fields_of}
 use Rattle.ccmp.proofs.Verdicts.{passes}
 use Rattle.fragments.proofs.Splits.{split_refused, split_gives}
@@ -28,34 +27,28 @@ module _ (s : Sender) (size : ℕ) (f : List ℕ) (room : ℕ) (h : Header) (e :
   fields : Fields f h
   fields = fields_of f h passed.0
 
-pub put_fragments-next-requires : goal.put_fragments-next-requires
-put_fragments-next-requires c =
+pub put_all-sender-requires : goal.put_all-sender-requires
+put_all-sender-requires c =
     let a = c.args in
-    let q = splittable a.s a.size a.frame.now (length a.out.now) c.in-Pass.header c.in-Pass.ensures in
-    ((fields a.s a.size a.frame.now (length a.out.now) c.in-Pass.header c.in-Pass.ensures).length_is, q.0, q.1)
+    let e = c.in-Ok.ensures in
+    rw (e.lent.0, e.lent.1) (splittable a.s a.size a.frame.now (length a.out.now) c.in-Ok.pieces.header e.found)
 
-pub overflow_add-result : goal.overflow_add-result
-overflow_add-result c =
+pub overflow_add-answer : goal.overflow_add-answer
+overflow_add-answer c =
     let a = c.args in
-    record { fits = omega (arith, (splittable a.s a.size a.frame.now (length a.out.now) c.in-Pass.header c.in-Pass.ensures).0.unspent) }
+    record { fits = omega (arith, (splittable a.s a.size a.frame.now (length a.out.now) c.in-Ok.pieces.header c.in-Ok.ensures.found).0.unspent) }
 
-pub sealed_length-requires : goal.sealed_length-requires
-sealed_length-requires c =
+pub returns-in-Err : goal.returns-in-Err
+returns-in-Err c =
     let a = c.args in
-    let q = (splittable a.s a.size a.frame.now (length a.out.now) c.in-Pass.header c.in-Pass.ensures).0 in
-    record { header = (fields a.s a.size a.frame.now (length a.out.now) c.in-Pass.header c.in-Pass.ensures).length_is; whole = q.whole; fit = q.fit }
+    split_refused a.s a.size a.frame.now a.out.now (header_of a.frame.now) _ c.in-Err.ensures.found
 
-pub returns-in-Refuse : goal.returns-in-Refuse
-returns-in-Refuse c =
+pub returns-in-Ok : goal.returns-in-Ok
+returns-in-Ok c =
     let a = c.args in
-    let g = split_refused a.s a.size a.frame.now a.out.now (header_of a.frame.now) _ c.in-Refuse.ensures in
-    record { answer_value = g.0; sender_value = g.1.0; out_after = g.1.1 }
-
-pub returns-in-Pass : goal.returns-in-Pass
-returns-in-Pass c =
-    let a = c.args in
-    let put = c.put_fragments-next in
-    let g = split_gives a.s a.size a.frame.now a.out.now put.result c.in-Pass.header.priority c.sealed_length.result put.new.out
-    (passed a.s a.size a.frame.now (length a.out.now) c.in-Pass.header c.in-Pass.ensures).1
-    (fields a.s a.size a.frame.now (length a.out.now) c.in-Pass.header c.in-Pass.ensures).priority_is c.sealed_length.ensures put.ensures.value put.ensures.out_after in
-    record { answer_value = g.0; sender_value = g.1.0; out_after = g.1.1 }
+    let f = a.frame.now in
+    let e = c.in-Ok.ensures in
+    let put = rw (e.lent.0, e.lent.1) at c.put_all-sender.ensures in
+    split_gives a.s a.size f a.out.now _ c.in-Ok.pieces.header.priority _ _
+    (passed a.s a.size f (length a.out.now) c.in-Ok.pieces.header e.found).1
+    (fields a.s a.size f (length a.out.now) c.in-Ok.pieces.header e.found).priority_is (rw (e.lent.0, e.lent.1) at c.sealed_length.ensures) put.value put.out_after
