@@ -1,52 +1,31 @@
-// Entries looked for. Where none is found, the place is the number of entries.
-ghost use Rattle.std.specs.Prelude.{◌≡◌};
+// Entries looked for.
+ghost use Rattle.std.specs.Prelude.{◌≡◌, ◌<◌, IfSome};
+ghost use Rattle.rules.specs.Limits.{table_entries};
 ghost use Rattle.rules.specs.Table.{place_of};
 ghost use Rattle.rules.specs.Adding.{key_place, free_place};
+ghost use Rattle.table.specs.Places.{found};
 
 use crate::entry::{has_key, is_for};
-use rules::{ENTRIES, KEY_OCTETS, Table, Triple};
+use rules::{KEY_OCTETS, Table, Triple};
 
 // The place of the entry of a triple.
-pub(crate) fn place_of(t: Table, x: Triple) -> usize
-    ensures { result ≡ place_of t x }
+pub(crate) fn place_of(t: &Table, x: &Triple) -> Option<usize>
+    ensures value { result ≡ found t.now (place_of t.now x.now) }
+    ensures bound { IfSome result (λ i. i < table_entries) }
 {
-    let mut i: usize = 0;
-    while i < ENTRIES {
-        let e = t.entries[i];
-        if is_for(x, e) {
-            return i;
-        }
-        i += 1;
-    }
-    ENTRIES
+    t.entries.iter().position(|e| is_for(x, e))
 }
 
 // The first place of an entry with a key.
-pub(crate) fn key_place(t: Table, key: [u8; KEY_OCTETS]) -> usize
-    ensures { result ≡ key_place t key }
+pub(crate) fn key_place(t: &Table, key: &[u8; KEY_OCTETS]) -> Option<usize>
+    ensures { result ≡ found t.now (key_place t.now key.now) }
 {
-    let mut i: usize = 0;
-    while i < ENTRIES {
-        let e = t.entries[i];
-        if has_key(key, e) {
-            return i;
-        }
-        i += 1;
-    }
-    ENTRIES
+    t.entries.iter().position(|e| has_key(key, e))
 }
 
 // The first place that is free.
-pub(crate) fn free_place(t: Table) -> usize
-    ensures { result ≡ free_place t }
+pub(crate) fn free_place(t: &Table) -> Option<usize>
+    ensures { result ≡ found t.now (free_place t.now) }
 {
-    let mut i: usize = 0;
-    while i < ENTRIES {
-        let e = t.entries[i];
-        if !e.used {
-            return i;
-        }
-        i += 1;
-    }
-    ENTRIES
+    t.entries.iter().position(|e| !e.used)
 }

@@ -1,55 +1,73 @@
 -- Test by test, and then the entry is new.
 use mathlib.Core.Path.{◌≡◌, sym, ap₂, ◌∙◌}
-use borrow.Author.Tests.{lt-ltb, le-ltb, not-true, not-false}
-use lib.Dec.{ltb}
-use lib.ListN.{length}
-use Rattle.rules.specs.Limits.{table_entries}
+use mathlib.Core.Bool.{true, false}
+use borrow.Author.Tests.{not-true, not-false}
+use Rattle.rules.specs.Answers.{Refused}
+use Rattle.rules.specs.Records.{receiver_fits}
 use Rattle.rules.specs.Table.{put, sound_table}
-use Rattle.table.proofs.Changes.{add_refused, add_done}
-use borrow.Author.Rules.{rules}
+use Rattle.rules.specs.declared.Table.{Table}
+use Rattle.rules.specs.declared.Pairing.{Pairing}
+use Rattle.rules.specs.Adding.{key_place, add_place}
+use Rattle.table.proofs.Changes.{Added, add_refused, add_done}
+use Rattle.table.proofs.Loops.{found_some, found_none, found_any}
 use Rattle.table.proofs.adding.add.Goals as goal
+use Rattle.table.proofs.adding.add.Goals.{then-not-sound_table, else-not-sound_table}
 
-pub returns-then-unsound : goal.returns-then-unsound
-returns-then-unsound c =
-    let r = add_refused c.args.t c.args.x 1 (rw (not-true (sound_table c.args.t) (sym c.unsound.ensures ∙ c.if-unsound.true))) in
-    record { answer_value = r.0; table_value = r.1 }
+-- the table is sound, and the size and the key ID fit
+abbrev Both : Table → Pairing → Type 0
+Both t x = (sound_table t ≡ true) × (receiver_fits x.triple.key_id x.size ≡ true)
 
 pub returns-then-not-receiver_fits : goal.returns-then-not-receiver_fits
 returns-then-not-receiver_fits c =
-    let sound = not-false (sound_table c.args.t) (sym c.unsound.ensures ∙ c.if-unsound.false) in
-    let r = add_refused c.args.t c.args.x 1 (rw (sound, sym c.receiver_fits.ensures ∙ c.if-not-receiver_fits.true)) in
+    let t = c.args.t in
+    let x = c.args.x in
+    let r : Added t x (Refused 1) t = elim c.if-not-sound_table.branch [
+      | then-not-sound_table w ↦ add_refused t x 1 (rw (sym c.sound_table.ensures ∙ w.if-not-sound_table.true))
+      | else-not-sound_table w ↦
+          add_refused t x 1
+          (rw (
+            sym c.sound_table.ensures ∙ w.if-not-sound_table.false,
+            sym w.receiver_fits.ensures ∙ not-true _ (sym w.value-is ∙ c.if-not-receiver_fits.true),
+          ))
+    ] in
     record { answer_value = r.0; table_value = r.1 }
 
-pub returns-then-key_place-lt-ENTRIES : goal.returns-then-key_place-lt-ENTRIES
-returns-then-key_place-lt-ENTRIES c =
+pub returns-then-is_some : goal.returns-then-is_some
+returns-then-is_some c =
     let t = c.args.t in
-    let size : length t.entries ≡ table_entries = search rules in
-    let sound = not-false (sound_table t) (sym c.unsound.ensures ∙ c.if-unsound.false) in
-    let fits = sym c.receiver_fits.ensures ∙ c.if-not-receiver_fits.false in
-    let known = ap₂ ltb (sym c.key_place.ensures) size in
-    let r = add_refused t c.args.x 17 (rw (sound, fits, known ∙ lt-ltb _ _ c.if-key_place-lt-ENTRIES.true)) in
+    let both : Both t c.args.x = elim c.if-not-sound_table.branch [
+      | then-not-sound_table w ↦ let e = rw w.if-not-sound_table.true at w.value-is in cc
+      | else-not-sound_table w ↦
+          (sym c.sound_table.ensures ∙ w.if-not-sound_table.false, sym w.receiver_fits.ensures ∙ not-false _ (sym w.value-is ∙ c.if-not-receiver_fits.false))
+    ] in
+    let known = found_any t (key_place t c.args.x.key) _ _ true c.key_place.ensures c.is_some.ensures c.if-is_some.true in
+    let r = add_refused t c.args.x 17 (rw (both.0, both.1, known)) in
     record { answer_value = r.0; table_value = r.1 }
 
-pub returns-then-i-lt-ENTRIES : goal.returns-then-i-lt-ENTRIES
-returns-then-i-lt-ENTRIES c =
+pub returns-in-Some : goal.returns-in-Some
+returns-in-Some c =
     let t = c.args.t in
-    let size : length t.entries ≡ table_entries = search rules in
-    let sound = not-false (sound_table t) (sym c.unsound.ensures ∙ c.if-unsound.false) in
-    let fits = sym c.receiver_fits.ensures ∙ c.if-not-receiver_fits.false in
-    let new = ap₂ ltb (sym c.key_place.ensures) size ∙ le-ltb _ _ c.if-key_place-lt-ENTRIES.false in
-    let placed = ap₂ ltb (sym c.add_place-i.ensures) size in
+    let both : Both t c.args.x = elim c.if-not-sound_table.branch [
+      | then-not-sound_table w ↦ let e = rw w.if-not-sound_table.true at w.value-is in cc
+      | else-not-sound_table w ↦
+          (sym c.sound_table.ensures ∙ w.if-not-sound_table.false, sym w.receiver_fits.ensures ∙ not-false _ (sym w.value-is ∙ c.if-not-receiver_fits.false))
+    ] in
+    let new = found_any t (key_place t c.args.x.key) _ _ false c.key_place.ensures c.is_some.ensures c.if-is_some.false in
+    let at = found_some t (add_place t c.args.x.triple) _ c.in-Some.ensures in
     let r =
-    add_done t c.args.x _ (rw (sound, fits, new, placed ∙ lt-ltb _ _ c.if-i-lt-ENTRIES.true))
-    (ap₂ (put t) c.add_place-i.ensures c.new_entry.ensures) in
+    add_done t c.args.x _ (rw (both.0, both.1, new, at.1))
+    (ap₂ (put t) at.0 c.new_entry.ensures) in
     record { answer_value = r.0; table_value = r.1 }
 
-pub returns-else-i-lt-ENTRIES : goal.returns-else-i-lt-ENTRIES
-returns-else-i-lt-ENTRIES c =
+pub returns-in_default : goal.returns-in_default
+returns-in_default c =
     let t = c.args.t in
-    let size : length t.entries ≡ table_entries = search rules in
-    let sound = not-false (sound_table t) (sym c.unsound.ensures ∙ c.if-unsound.false) in
-    let fits = sym c.receiver_fits.ensures ∙ c.if-not-receiver_fits.false in
-    let new = ap₂ ltb (sym c.key_place.ensures) size ∙ le-ltb _ _ c.if-key_place-lt-ENTRIES.false in
-    let placed = ap₂ ltb (sym c.add_place-i.ensures) size in
-    let r = add_refused t c.args.x 16 (rw (sound, fits, new, placed ∙ le-ltb _ _ c.if-i-lt-ENTRIES.false)) in
+    let both : Both t c.args.x = elim c.if-not-sound_table.branch [
+      | then-not-sound_table w ↦ let e = rw w.if-not-sound_table.true at w.value-is in cc
+      | else-not-sound_table w ↦
+          (sym c.sound_table.ensures ∙ w.if-not-sound_table.false, sym w.receiver_fits.ensures ∙ not-false _ (sym w.value-is ∙ c.if-not-receiver_fits.false))
+    ] in
+    let new = found_any t (key_place t c.args.x.key) _ _ false c.key_place.ensures c.is_some.ensures c.if-is_some.false in
+    let full = found_none t (add_place t c.args.x.triple) c.in_default.ensures in
+    let r = add_refused t c.args.x 16 (rw (both.0, both.1, new, full)) in
     record { answer_value = r.0; table_value = r.1 }

@@ -1,21 +1,22 @@
--- The place of a present triple, or else the first free one.
-use mathlib.Core.Path.{◌≡◌, sym, ap₂, ◌∙◌}
-use borrow.Author.Tests.{lt-ltb, le-ltb}
-use lib.Dec.{ltb}
-use lib.ListN.{length}
-use Rattle.rules.specs.Limits.{table_entries}
-use Rattle.rules.specs.Adding.{add_place}
+use mathlib.Core.Path.{◌≡◌, ◌∙◌}
+use Prim.Native.Nat.{ℕ}
 use borrow.Author.Rules.{rules}
+use Rattle.std.proofs.Common.{Option, Some, None}
+use Rattle.std.specs.Option.{MatchOption}
+use Rattle.rules.specs.Table.{place_of}
+use Rattle.rules.specs.Adding.{free_place, add_place}
+use Rattle.rules.specs.declared.Table.{Table}
+use Rattle.rules.specs.declared.Triple.{Triple}
+use Rattle.table.specs.Places.{found}
+use Rattle.table.proofs.Loops.{found_some, found_none}
 use Rattle.table.proofs.adding.add_place.Goals as goal
 
-pub returns-then-i-lt-ENTRIES : goal.returns-then-i-lt-ENTRIES
+-- The place of a present triple, or else the first free one.
+placed : {P : Type 0} (t : Table) (x : Triple) (p r : Option ℕ) → p ≡ found t (place_of t x) → MatchOption p P (λ i. r ≡ Some i)
+    → (P → r ≡ found t (free_place t)) → r ≡ found t (add_place t x)
 unfolding add_place
-returns-then-i-lt-ENTRIES c =
-    let size : length c.args.t.entries ≡ table_entries = search rules in
-    rw (ap₂ ltb (sym c.place_of-i.ensures) size ∙ lt-ltb _ _ c.if-i-lt-ENTRIES.true) c.place_of-i.ensures
+placed t x None r e m k = rw (found_none t (place_of t x) e) (k m)
+placed t x (Some i) r e m k = rw ((found_some t (place_of t x) i e).1) (m ∙ e)
 
 pub returns : goal.returns
-unfolding add_place
-returns c =
-    let size : length c.args.t.entries ≡ table_entries = search rules in
-    rw (ap₂ ltb (sym c.place_of-i.ensures) size ∙ le-ltb _ _ c.if-i-lt-ENTRIES.false) c.free_place.ensures
+returns c = placed c.args.t.now c.args.x.now c.place_of.result c.or_else.result c.place_of.ensures.value c.or_else.ensures (λ h. search rules)

@@ -4,4 +4,4 @@ use Rattle.table.proofs.adding.new_table.Goals as goal
 -- Each entry is a free one.
 pub returns : goal.returns
 unfolding fresh_table
-returns c = rw c.free_entry-free.ensures
+returns c = rw c.free_entry.ensures

@@ -1,26 +1,15 @@
-use mathlib.Core.Path.{◌≡◌, sym, ◌∙◌}
-use native.Mathlib.Nat.{zero-add}
-use native.Mathlib.Omega.{arith}
-use borrow.Author.Rules.{rules}
-use Rattle.rules.specs.Limits.{table_entries}
+use Rattle.std.proofs.Common.{rules, ◌≡◌, true, false}
+use borrow.Author.Tests.{tests}
+use Rattle.std.proofs.lemmas.Iterator.{YieldsList-from_slice, IsFirst-from_position}
 use Rattle.rules.specs.Table.{is_for, place_of}
-use Rattle.table.proofs.Loops.{here, further, nowhere}
+use Rattle.table.proofs.Loops.{first_found}
 use Rattle.table.proofs.search.place_of.Goals as goal
 
-pub loop-i-init : goal.loop-i-init
-loop-i-init c = (search rules, search rules, sym (zero-add _))
-
-pub returns-then-is_for : goal.returns-then-is_for
+pub returns-clause-value : goal.returns-clause-value
 unfolding place_of
-returns-then-is_for c =
-    sym (c.loop-i.invariant.2 ∙ here (is_for c.args.x) _ _ c.loop-i.i (search rules) (sym c.is_for.ensures ∙ c.if-is_for.true))
-
-pub loop-i-preserved : goal.loop-i-preserved
-loop-i-preserved c =
-    (search rules, c.loop-i.invariant.1, c.loop-i.invariant.2 ∙ further (is_for c.args.x) _ _ c.loop-i.i (search rules) (sym c.is_for.ensures ∙ c.if-is_for.false))
-
-pub returns : goal.returns
-unfolding place_of
-returns c =
-    let at : c.loop-i.i ≡ table_entries = omega (arith, c.loop-i.invariant.0, c.loop-i-test.false) in
-    sym (c.loop-i.invariant.2 ∙ nowhere (is_for c.args.x) _ c.loop-i.i (omega (arith, c.loop-i.invariant.1)) ∙ at)
+returns-clause-value c =
+    let es = c.args.t.now.entries in
+    first_found (is_for c.args.x.now) es c.position.result
+    (IsFirst-from_position _ _ c.position.result (λ e. (is_for c.args.x.now) e ≡ true) (λ e. (is_for c.args.x.now) e ≡ false) c.position.ensures.ran
+    (YieldsList-from_slice es cc)
+    (λ e q k. search (rules, tests)) (λ e q k. search (rules, tests)))

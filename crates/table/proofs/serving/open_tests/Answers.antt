@@ -3,7 +3,7 @@ use mathlib.Core.Path.{◌≡◌, sym, ◌∙◌}
 use mathlib.Core.List.{List, [], ◌++◌}
 use Prim.Native.Nat.{ℕ, ◌+◌, ◌-◌, ◌≤◌, ◌<◌}
 use native.Mathlib.Omega.{arith}
-use borrow.Author.Tests.{lt-ltb, le-ltb}
+use borrow.Author.Tests.{le-ltb}
 use lib.ListN.{length, get_or}
 use Rattle.rules.specs.Limits.{least_header, least_body, most_body}
 use Rattle.rules.specs.Header.{header_length, header_of}
@@ -13,11 +13,10 @@ use Rattle.rules.specs.Tests.{room_test, extended_test}
 use Rattle.rules.specs.declared.Header.{Header}
 use Rattle.rules.specs.declared.Table.{Table}
 use Rattle.rules.proofs.Fields.{header_range}
-use Rattle.ccmp.specs.Verdict.{verdict}
-use Rattle.ccmp.specs.declared.verdict.Verdict.TheVariants.{Pass}
+use Rattle.ccmp.specs.Verdict.{Pass, verdict}
 use Rattle.ccmp.proofs.Headers.{Fields, fields_of}
 use Rattle.ccmp.proofs.Keys.{extended_not, extended_set}
-use Rattle.ccmp.proofs.Verdicts.{refuses, passes}
+use Rattle.ccmp.proofs.Verdicts.{passes}
 use Rattle.table.specs.Forms.{form_tests}
 use Rattle.table.proofs.Served.{goes_on, formed}
 use borrow.Author.Rules.{rules}
@@ -40,43 +39,31 @@ module _ (t : Table) (f : List ℕ) (h : Header) (e : Pass h ≡ verdict (forms 
   on : (room : ℕ) → verdict (forms t f ++ more f room) (header_of f) ≡ verdict (more f room) h
   on room = goes_on (forms t f) (more f room) (header_of f) h e
 
-pub returns-in-Refuse : goal.returns-in-Refuse
-returns-in-Refuse c =
+pub overflow_add-header : goal.overflow_add-header
+overflow_add-header c =
     let f = c.args.frame.now in
-    refuses (forms c.args.t f) (more f c.args.room) (header_of f) _ c.in-Refuse.ensures
+    record { fits = omega (arith, (fields c.args.t.now f _ c.in_ok-header.ensures).length_is, header_range f) }
 
-pub overflow_sub-frame : goal.overflow_sub-frame
-overflow_sub-frame c = omega (arith, sizes c.args.t c.args.frame.now c.in-Pass.header c.in-Pass.ensures)
-
-pub returns-then-room-frame : goal.returns-then-room-frame
-returns-then-room-frame c =
-    sym (on c.args.t c.args.frame.now _ c.in-Pass.ensures c.args.room ∙ rw (lt-ltb _ _ c.if-room-frame.true))
-
-pub overflow_add-h : goal.overflow_add-h
-overflow_add-h c =
+pub bounds-frame-header : goal.bounds-frame-header
+bounds-frame-header c =
     let f = c.args.frame.now in
-    record { fits = omega (arith, (fields c.args.t f _ c.in-Pass.ensures).length_is, header_range f) }
+    let e = c.in_ok-header.ensures in
+    omega (arith, (fields c.args.t.now f _ e).length_is, sizes c.args.t.now f _ e)
 
-pub bounds-frame-h : goal.bounds-frame-h
-bounds-frame-h c =
+pub returns-then-frame-header-eq0 : goal.returns-then-frame-header-eq0
+returns-then-frame-header-eq0 c =
     let f = c.args.frame.now in
-    let e = c.in-Pass.ensures in
-    omega (arith, (fields c.args.t f _ e).length_is, sizes c.args.t f _ e)
-
-pub returns-then-frame-h-eq0 : goal.returns-then-frame-h-eq0
-returns-then-frame-h-eq0 c =
-    let f = c.args.frame.now in
-    let h = c.in-Pass.header in
-    let e = c.in-Pass.ensures in
+    let h = c.in_ok-header.header in
+    let e = c.in_ok-header.ensures in
     let small : get_or f (h.length + 3) 0 < 256 = search rules in
-    let plain = extended_not f h.length (fields c.args.t f h e).length_is small c.if-frame-h-eq0.true in
-    sym (on c.args.t f h e c.args.room ∙ rw (le-ltb _ _ c.if-room-frame.false, plain))
+    let plain = extended_not f h.length (fields c.args.t.now f h e).length_is small c.if-frame-header-eq0.true in
+    sym (on c.args.t.now f h e c.args.room ∙ rw (le-ltb _ _ c.if-room-frame.false, plain))
 
-pub returns-else-frame-h-eq0 : goal.returns-else-frame-h-eq0
-returns-else-frame-h-eq0 c =
+pub returns : goal.returns
+returns c =
     let f = c.args.frame.now in
-    let h = c.in-Pass.header in
-    let e = c.in-Pass.ensures in
+    let h = c.in_ok-header.header in
+    let e = c.in_ok-header.ensures in
     let small : get_or f (h.length + 3) 0 < 256 = search rules in
-    let marked = extended_set f h.length (fields c.args.t f h e).length_is small c.if-frame-h-eq0.false in
-    sym (on c.args.t f h e c.args.room ∙ rw (le-ltb _ _ c.if-room-frame.false, marked))
+    let marked = extended_set f h.length (fields c.args.t.now f h e).length_is small c.if-frame-header-eq0.false in
+    sym (on c.args.t.now f h e c.args.room ∙ rw (le-ltb _ _ c.if-room-frame.false, marked))
