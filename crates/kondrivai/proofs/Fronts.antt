@@ -1,10 +1,11 @@
 -- What the front tells of a buffer.
 use mathlib.Core.Path.{◌≡◌, ap, ap₂, ◌∙◌}
-use mathlib.Core.Bool.{true, ◌&&◌}
+use mathlib.Core.Logic.{◌≢◌}
+use mathlib.Core.Bool.{true, false, ◌&&◌}
 use mathlib.Core.List.{List, ◌∷◌}
 use Prim.Native.Nat.{ℕ, ◌≤◌}
 use native.Mathlib.Omega.{arith}
-use borrow.Author.Tests.{eqb-true}
+use borrow.Author.Tests.{eqb-true, ne_eqb}
 use lib.Dec.{eqb, leb}
 use lib.ListN.{length, get_or, drop}
 use lib.Seq.{drop-cons}
@@ -48,3 +49,12 @@ sender_size_lem b is = of_size sender_kind layout sender_size b (sender_is b is)
 
 pub receiver_size_lem : (b : List ℕ) → is_receiver b ≡ true → length b ≡ receiver_size
 receiver_size_lem b is = of_size receiver_kind layout receiver_size b (receiver_is b is).0
+
+-- and one of another length holds none
+pub no_sender : (b : List ℕ) → length b ≢ sender_size → is_sender b ≡ false
+unfolding is_sender
+no_sender b h = rw (ne_eqb (length b) sender_size h)
+
+pub no_receiver : (b : List ℕ) → length b ≢ receiver_size → is_receiver b ≡ false
+unfolding is_receiver
+no_receiver b h = rw (ne_eqb (length b) receiver_size h)

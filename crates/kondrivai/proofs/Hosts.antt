@@ -17,8 +17,8 @@ use Rattle.rules.specs.Calls.{Call, OctetFrames, open_run}
 use Rattle.rules.specs.Sending.{sealing, send_run}
 use Rattle.rules.specs.declared.Sender.{Sender}
 use Rattle.rules.specs.declared.Receiver.{Receiver}
-use Rattle.rules.specs.declared.Answer.{Answer}
-use Rattle.rules.specs.declared.Answer.TheVariants.{Done, Refused}
+use Rattle.rules.specs.Answers.{Answer}
+use Rattle.rules.specs.Answers.{Done, Refused}
 use Rattle.rules.proofs.Sends.{next_sound}
 use Rattle.rules.proofs.Steps.{Windowed, windows_sound, new_windowed, keeps_windowed, keeps_sound}
 use Rattle.kondrivai.specs.Layout1.{sender_size, is_sender, sender_in, sender_octets, receiver_size, is_receiver, receiver_in, receiver_octets}

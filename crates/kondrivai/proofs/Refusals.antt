@@ -17,8 +17,8 @@ use Rattle.rules.specs.Sealing.{sealed_frame, seal_tests, seal_answer, seal_next
 use Rattle.rules.specs.Opening.{opened_frame, open_tests, open_answer, open_next, open_output}
 use Rattle.rules.specs.declared.Sender.{Sender}
 use Rattle.rules.specs.declared.Receiver.{Receiver}
-use Rattle.rules.specs.declared.Answer.{Answer}
-use Rattle.rules.specs.declared.Answer.TheVariants.{Done, Refused}
+use Rattle.rules.specs.Answers.{Answer}
+use Rattle.rules.specs.Answers.{Done, Refused}
 use Rattle.rules.proofs.Passing.{of_first, seal_done, open_done}
 use Rattle.kondrivai.specs.Layout1.{is_sender, sender_in, sender_octets, is_receiver, receiver_in, receiver_octets}
 use Rattle.kondrivai.specs.Exports.{seal_number, seal_buffer, seal_room, open_number, open_buffer, open_room}

@@ -14,7 +14,7 @@ use Rattle.rules.specs.Calls.{Call, OctetFrames, open_run}
 use Rattle.rules.specs.Sending.{sealing, send_run}
 use Rattle.rules.specs.declared.Sender.{Sender}
 use Rattle.rules.specs.declared.Receiver.{Receiver}
-use Rattle.rules.specs.declared.Answer.TheVariants.{Done}
+use Rattle.rules.specs.Answers.{Done}
 use Rattle.kondrivai.specs.Layout1.{sender_octets, receiver_octets}
 use Rattle.kondrivai.specs.Exports.{seal_number, seal_buffer, seal_room, open_number, open_buffer, open_room, fresh_sender_number, fresh_sender_buffer, fresh_receiver_number, fresh_receiver_buffer}
 

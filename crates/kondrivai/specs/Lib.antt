@@ -1,5 +1,7 @@
 pub mod Numbers
 pub mod Front
+pub mod Kinds
+pub mod Held
 pub mod Meaning
 pub mod Layout1
 pub mod Exports

@@ -1,36 +1,43 @@
 // The front of a buffer: what it is, and the number of its layout.
 ghost use Rattle.std.specs.Prelude.{◌≡◌, [], ◌∷◌, ◌≤◌, length, take};
 ghost use Rattle.kondrivai.specs.Front.{front_octets, is_of};
+ghost use Rattle.kondrivai.specs.Kinds.{kind_octet};
 ghost use Rattle.kondrivai.specs.Layout1.{layout};
 
 use crate::number::put_octet;
 
-// The kinds.
-pub(crate) const SENDER: u8 = b'S';
+#[derive(Clone, Copy)]
+pub(crate) enum Kind {
+    Sender,
+    Receiver,
+}
 
-pub(crate) const RECEIVER: u8 = b'R';
+const LAYOUT: u8 = 1;
 
-pub(crate) const LAYOUT: u8 = 1;
+impl Kind {
+    fn octet(self) -> u8
+        ensures { result ≡ kind_octet self }
+    {
+        match self {
+            Kind::Sender => b'S',
+            Kind::Receiver => b'R',
+        }
+    }
+}
 
 // Writes the front.
-pub(crate) fn put_front(kind: u8, b: &mut [u8])
+pub(crate) fn put_front(kind: Kind, b: &mut [u8])
     requires { front_octets ≤ length b.old }
-    ensures { take front_octets b.new ≡ kind ∷ layout ∷ [] }
+    ensures { take front_octets b.new ≡ kind_octet kind ∷ layout ∷ [] }
 {
-    put_octet(kind, b, 0);
+    put_octet(kind.octet(), b, 0);
     put_octet(LAYOUT, b, 1);
 }
 
-// Whether b is a buffer of this kind and length, and of the layout.
-pub(crate) fn is_of(b: &[u8], kind: u8, size: usize) -> bool
-    requires { front_octets ≤ size }
-    ensures { result ≡ is_of kind layout size b.now }
+// Whether b is of this kind, and of the layout.
+pub(crate) fn is_of(b: &[u8], kind: Kind) -> bool
+    requires { front_octets ≤ length b.now }
+    ensures { result ≡ is_of (kind_octet kind) layout (length b.now) b.now }
 {
-    if b.len() != size {
-        return false;
-    }
-    if b[0] != kind {
-        return false;
-    }
-    b[1] == LAYOUT
+    b[0] == kind.octet() && b[1] == LAYOUT
 }

@@ -3,13 +3,12 @@
 #![tactic(auto)]
 
 ghost use Rattle.std.specs.Prelude.{◌≡◌};
-ghost use Rattle.kondrivai.specs.Exports.{seal_number, seal_buffer, seal_room, open_number, open_buffer, open_room, can_hold, fresh_sender_number, fresh_sender_buffer, fresh_receiver_number, fresh_receiver_buffer};
+ghost use Rattle.kondrivai.specs.Exports.{seal_number, seal_buffer, seal_room, open_number, open_buffer, open_room, fresh_sender_number, fresh_sender_buffer, fresh_receiver_number, fresh_receiver_buffer};
 
 use crate::answer::number_of;
-use crate::number::key_at;
-use crate::receiver::{RECEIVER_OCTETS, get_receiver, is_receiver, put_receiver};
-use crate::sender::{SENDER_OCTETS, get_sender, is_sender, put_sender};
-use rules::{ADDRESS_OCTETS, KEY_OCTETS};
+use crate::receiver::{get_receiver, put_receiver};
+use crate::sender::{get_sender, put_sender};
+use rules::{ADDRESS_OCTETS, Refusal};
 
 mod answer; // answer.rt: the number of an answer
 mod front; // front.rt: what a buffer is
@@ -18,17 +17,10 @@ mod receiver; // receiver.rt: a receiver's buffer
 mod sender; // sender.rt: a sender's buffer
 
 // What a buffer that is no record is answered.
-const NO_RECORD: u32 = 1;
+const NO_RECORD: u32 = Refusal::Record as u32;
 
-// Whether a buffer has the octets of its record, and a key its own.
-fn can_hold(b: &[u8], size: usize, key: &[u8]) -> bool
-    ensures { result ≡ can_hold size b.now key.now }
-{
-    if b.len() != size {
-        return false;
-    }
-    key.len() == KEY_OCTETS
-}
+// The calls come in twos, one for each record: kondrivai_c exports each under its own name, with its own clauses of Exports, and
+// include/kondrivai.h and docs/ name them so.
 
 // Makes a sender that has sealed nothing.
 pub fn kondrivai_fresh_sender(
@@ -40,18 +32,17 @@ pub fn kondrivai_fresh_sender(
     ensures value { result ≡ fresh_sender_number «record».old key.now key_id }
     ensures record_after { «record».new ≡ fresh_sender_buffer «record».old key.now key_id address.now }
 {
-    if !can_hold(record, SENDER_OCTETS, key) {
+    let Some(record) = record.as_mut_array() else {
         return NO_RECORD;
+    };
+    let Some(key) = key.as_array() else {
+        return NO_RECORD;
+    };
+    let made = ccmp::fresh_sender(*key, key_id, *address);
+    if made.answer.is_ok() {
+        put_sender(made.sender, record);
     }
-    let made = ccmp::fresh_sender(key_at(key, 0), key_id, *address);
-    let a = made.answer;
-    let n = number_of(a);
-    if n != 0 {
-        return n;
-    }
-    let s = made.sender;
-    put_sender(s, record);
-    n
+    number_of(made.answer)
 }
 
 // Makes a receiver that has opened nothing, with windows of this size.
@@ -65,18 +56,17 @@ pub fn kondrivai_fresh_receiver(
     ensures value { result ≡ fresh_receiver_number «record».old key.now key_id size }
     ensures record_after { «record».new ≡ fresh_receiver_buffer «record».old key.now key_id peer.now size }
 {
-    if !can_hold(record, RECEIVER_OCTETS, key) {
+    let Some(record) = record.as_mut_array() else {
         return NO_RECORD;
+    };
+    let Some(key) = key.as_array() else {
+        return NO_RECORD;
+    };
+    let made = ccmp::fresh_receiver(*key, key_id, *peer, size);
+    if made.answer.is_ok() {
+        put_receiver(made.receiver, record);
     }
-    let made = ccmp::fresh_receiver(key_at(key, 0), key_id, *peer, size);
-    let a = made.answer;
-    let n = number_of(a);
-    if n != 0 {
-        return n;
-    }
-    let r = made.receiver;
-    put_receiver(r, record);
-    n
+    number_of(made.answer)
 }
 
 // Seals a plain frame into the front of out, by the sender in record.
@@ -85,14 +75,15 @@ pub fn kondrivai_seal(record: &mut [u8], frame: &[u8], out: &mut [u8]) -> u32
     ensures record_after { «record».new ≡ seal_buffer «record».old frame.now out.old }
     ensures out_after { out.new ≡ seal_room «record».old frame.now out.old }
 {
-    if !is_sender(record) {
+    let Some(record) = record.as_mut_array() else {
         return NO_RECORD;
-    }
-    let sealed = ccmp::seal(get_sender(record), frame, out);
-    let s = sealed.sender;
-    put_sender(s, record);
-    let a = sealed.answer;
-    number_of(a)
+    };
+    let Some(sender) = get_sender(record) else {
+        return NO_RECORD;
+    };
+    let sealed = ccmp::seal(sender, frame, out);
+    put_sender(sealed.sender, record);
+    number_of(sealed.answer)
 }
 
 // Opens a sealed frame into the front of out, by the receiver in record.
@@ -101,12 +92,13 @@ pub fn kondrivai_open(record: &mut [u8], frame: &[u8], out: &mut [u8]) -> u32
     ensures record_after { «record».new ≡ open_buffer «record».old frame.now out.old }
     ensures out_after { out.new ≡ open_room «record».old frame.now out.old }
 {
-    if !is_receiver(record) {
+    let Some(record) = record.as_mut_array() else {
         return NO_RECORD;
-    }
-    let opened = ccmp::open(get_receiver(record), frame, out);
-    let r = opened.receiver;
-    put_receiver(r, record);
-    let a = opened.answer;
-    number_of(a)
+    };
+    let Some(receiver) = get_receiver(record) else {
+        return NO_RECORD;
+    };
+    let opened = ccmp::open(receiver, frame, out);
+    put_receiver(opened.receiver, record);
+    number_of(opened.answer)
 }

@@ -1,10 +1,12 @@
 // A sender's buffer, read and written.
 ghost use Rattle.std.specs.Prelude.{◌≡◌, length};
-ghost use Rattle.kondrivai.specs.Layout1.{sender_size, is_sender, sender_in, sender_octets};
+ghost use Rattle.kondrivai.specs.Layout1.{sender_size, sender_octets};
+ghost use Rattle.kondrivai.specs.Held.{held_sender};
 
-use crate::front::{SENDER, is_of, put_front};
-use crate::number::{address_at, key_at, put_octet, put_octets, put_six, six_at};
+use crate::front::{Kind, is_of, put_front};
+use crate::number::{put_octet, put_octets, put_six, six_at};
 use ccmp::MOST_KEY_ID;
+use octets::octets_at;
 use rules::Sender;
 
 pub(crate) const SENDER_OCTETS: usize = 31;
@@ -18,39 +20,25 @@ const KEY: usize = 9;
 
 const LAST: usize = 25;
 
-// Whether b holds a sender.
-pub(crate) fn is_sender(b: &[u8]) -> bool
-    ensures { result ≡ is_sender b.now }
+// The sender that b holds, if it holds one.
+pub(crate) fn get_sender(b: &[u8; SENDER_OCTETS]) -> Option<Sender>
+    ensures { result ≡ held_sender b.now }
 {
-    if !is_of(b, SENDER, SENDER_OCTETS) {
-        return false;
+    if !is_of(b, Kind::Sender) || MOST_KEY_ID < b[KEY_ID] {
+        return None;
     }
-    b[KEY_ID] <= MOST_KEY_ID
-}
-
-// The sender that b holds.
-pub(crate) fn get_sender(b: &[u8]) -> Sender
-    requires { length b.now ≡ sender_size }
-    ensures { result ≡ sender_in b.now }
-{
-    let address = address_at(b, ADDRESS);
-    let key = key_at(b, KEY);
+    let new = ccmp::new_sender(octets_at(b, KEY), b[KEY_ID], octets_at(b, ADDRESS));
     let last = six_at(b, LAST);
-    let mut s = ccmp::new_sender(key, b[KEY_ID], address);
-    s.last = last;
-    s
+    Some(Sender { last, ..new })
 }
 
 // Writes a sender over the whole of b.
-pub(crate) fn put_sender(s: Sender, b: &mut [u8])
-    requires { length b.old ≡ sender_size }
+pub(crate) fn put_sender(s: Sender, b: &mut [u8; SENDER_OCTETS])
     ensures { b.new ≡ sender_octets s }
 {
-    let address = s.address;
-    let key = s.key;
-    put_front(SENDER, b);
+    put_front(Kind::Sender, b);
     put_octet(s.key_id, b, KEY_ID);
-    put_octets(&address, b, ADDRESS);
-    put_octets(&key, b, KEY);
+    put_octets(&s.address, b, ADDRESS);
+    put_octets(&s.key, b, KEY);
     put_six(s.last, b, LAST);
 }

@@ -1,22 +1,25 @@
-use mathlib.Core.Path.{refl, sym, ◌∙◌}
+use mathlib.Core.Path.{refl, ap, ◌∙◌}
+use Rattle.rules.specs.Refusals.{answer_of}
 use Rattle.rules.specs.Sealing.{seal_answer, seal_next, seal_output}
 use Rattle.kondrivai.specs.Layout1.{sender_octets}
+use Rattle.kondrivai.specs.Held.{held_sender}
 use Rattle.kondrivai.specs.Exports.{seal_number, seal_buffer, seal_room}
-use Rattle.kondrivai.proofs.Called.{called}
-use Rattle.kondrivai.proofs.Fronts.{sender_size_lem}
+use Rattle.kondrivai.proofs.Called.{called, held_is, held_none}
+use Rattle.kondrivai.proofs.Fronts.{no_sender}
 use Rattle.kondrivai.proofs.kondrivai_seal.Goals as goal
 
-pub returns-then-not-is_sender : goal.returns-then-not-is_sender
+pub returns-in_default : goal.returns-in_default
 unfolding seal_number seal_buffer seal_room
-returns-then-not-is_sender c =
-    let not = sym c.is_sender.ensures ∙ c.if-not-is_sender.true in
-    record { value = rw not refl; record_after = rw not refl; out_after = rw not refl }
+returns-in_default c =
+    let none = no_sender _ c.in_default.ensures.cases in
+    record { value = rw none refl; record_after = rw none refl; out_after = rw none refl }
 
-pub get_sender-requires : goal.get_sender-requires
-get_sender-requires c = sender_size_lem _ (sym c.is_sender.ensures ∙ c.if-not-is_sender.false)
-
-pub put_sender-requires : goal.put_sender-requires
-put_sender-requires c = sender_size_lem _ (sym c.is_sender.ensures ∙ c.if-not-is_sender.false)
+pub returns-in_default-get_sender : goal.returns-in_default-get_sender
+unfolding seal_number seal_buffer seal_room
+returns-in_default-get_sender c =
+    let same = c.in-Some.ensures.cases.same in
+    let none = held_none _ _ (c.in_default-get_sender.ensures ∙ ap held_sender same) in
+    record { value = rw none refl; record_after = rw none same; out_after = rw none refl }
 
 pub returns : goal.returns
 unfolding seal_number seal_buffer seal_room
@@ -24,8 +27,8 @@ returns c =
     let beneath = c.seal-sealed in
     let f = c.args.frame.now in
     let o = c.args.out.now in
-    let held = sym c.is_sender.ensures ∙ c.if-not-is_sender.false in
+    let held = held_is _ _ _ (c.in-Some-get_sender.ensures ∙ ap held_sender c.in-Some.ensures.cases.same) in
     let all =
-    called (λ s. seal_answer s f o) (λ s. seal_next s f o) sender_octets (λ s. seal_output s f o) beneath.result.answer c.get_sender.ensures
+    called (λ s. seal_answer s f o) (λ s. seal_next s f o) sender_octets (λ s. seal_output s f o) (answer_of beneath.result.answer) held.1
     beneath.ensures.answer_value beneath.ensures.sender_value beneath.ensures.out_after c.number_of.ensures c.put_sender.ensures in
-    record { value = rw held all.0; record_after = rw held all.1.0; out_after = rw held all.1.1 }
+    record { value = rw held.0 all.0; record_after = rw held.0 all.1.0; out_after = rw held.0 all.1.1 }

@@ -5,8 +5,8 @@ use native.Mathlib.Omega.{arith}
 use lib.ListN.{length, take}
 use lib.Seq.{take_all}
 use Rattle.rules.specs.Limits.{key_octets, address_octets}
-use Rattle.kondrivai.specs.Numbers.{octets_of}
 use Rattle.kondrivai.specs.Layout1.{sender_size, sender_octets}
+use Rattle.kondrivai.specs.Numbers.{octets_of}
 use borrow.Author.Rules.{rules}
 use Rattle.kondrivai.proofs.sender.put_sender.Goals as goal
 
@@ -14,18 +14,18 @@ use Rattle.kondrivai.proofs.sender.put_sender.Goals as goal
 pub returns : goal.returns
 unfolding sender_octets
 returns c =
-    let r = c.args.s in
-    let address_size : length r.address ≡ address_octets = search rules in
-    let key_size : length r.key ≡ key_octets = search rules in
-    let key_end : 25 ≡ 9 + length r.key = omega (arith, key_size) in
-    let address_end : 9 ≡ 3 + length r.address = omega (arith, address_size) in
+    let s = c.args.s in
+    let address_size : length s.address ≡ address_octets = search rules in
+    let key_size : length s.key ≡ key_octets = search rules in
+    let key_end : 25 ≡ 9 + length s.key = omega (arith, key_size) in
+    let address_end : 9 ≡ 3 + length s.address = omega (arith, address_size) in
     sym (take_all sender_size c.put_six.new.b (search rules))
     ∙ c.put_six.ensures
-    ∙ ap (λ (t : List ℕ). t ++ octets_of 6 r.last)
+    ∙ ap (λ (t : List ℕ). t ++ octets_of 6 s.last)
     (ap (λ (n : ℕ). take n c.put_octets-2.new.b) key_end
     ∙ c.put_octets-2.ensures
-    ∙ ap (λ (t : List ℕ). t ++ r.key)
+    ∙ ap (λ (t : List ℕ). t ++ s.key)
     (ap (λ (n : ℕ). take n c.put_octets.new.b) address_end
     ∙ c.put_octets.ensures
-    ∙ ap (λ (t : List ℕ). t ++ r.address) (c.put_octet.ensures ∙ ap (λ (t : List ℕ). t ++ (r.key_id ∷ [])) c.put_front.ensures)))
+    ∙ ap (λ (t : List ℕ). t ++ s.address) (c.put_octet.ensures ∙ ap (λ (t : List ℕ). t ++ (s.key_id ∷ [])) c.put_front.ensures)))
     ∙ simp append_assoc
