@@ -1,6 +1,7 @@
 -- Digits in two parts are read one part after the other; and the two digits of each pair are found in it.
-use Rattle.std.proofs.Common.{◌≡◌, ℕ, zero, suc, ◌+◌, ◌-◌, ◌*◌, ◌/◌, ◌%◌, ◌<◌, ◌≤◌, Bool, true, false, cond, not, ◌&&◌, ltb, List, [], ◌∷◌, ◌++◌, length, get_or, take, drop, sym, refl, ap, ◌∙◌, ap₂, append_assoc, arith, length-append, length-drop, take-append-drop, length-take-le, drop-drop, take_at}
+use Rattle.std.proofs.Common.{◌≡◌, ℕ, zero, suc, ◌+◌, ◌-◌, ◌*◌, ◌/◌, ◌%◌, ◌^◌, ◌<◌, ◌≤◌, Bool, true, false, cond, not, ◌&&◌, ltb, List, [], ◌∷◌, ◌++◌, length, get_or, take, drop, sym, refl, ap, ◌∙◌, ap₂, append_assoc, arith, length-append, length-drop, take-append-drop, length-take-le, drop-drop, take_at}
 use mathlib.Core.Option.{Option, none, some}
+use Rattle.std.specs.Int.{bytes_low_first}
 use Rattle.octets.specs.Options.{is_none, contents}
 use Rattle.octets.proofs.Digits as digits
 use Rattle.book.specs.Hex.{digit, before, octets_of}
@@ -65,7 +66,10 @@ pair_at (x ∷ y ∷ s) (suc i) h =
     let b : 2 * suc i + 1 ≡ suc (suc (2 * i + 1)) = omega arith in
     pair_at s i (omega arith) ∙ ap₂ (λ (j k : ℕ). get_or (x ∷ y ∷ s) j 0 + 256 * get_or (x ∷ y ∷ s) k 0) (sym a) (sym b)
 
--- the two digits of a pair
-pub pair_digits : (s p : List ℕ) (i : ℕ) → p ≡ pairs s → 2 * i + 1 < length s → get_or s (2 * i) 0 < 256
-    → (get_or p i 0 % 256 ≡ get_or s (2 * i) 0) × (get_or p i 0 / 256 ≡ get_or s (2 * i + 1) 0)
-pair_digits s p i e h l = digits.digit _ _ _ (ap (λ (q : List ℕ). get_or q i 0) e ∙ pair_at s i h) l
+-- the two digits of a pair, by its octets
+pub pair_digits : (s p b : List ℕ) (i : ℕ) → p ≡ pairs s → 2 * i + 1 < length s → get_or s (2 * i) 0 < 256 → get_or s (2 * i + 1) 0 < 256
+    → b ≡ bytes_low_first 0 2 (get_or p i 0) → (get_or b 0 0 ≡ get_or s (2 * i) 0) × (get_or b 1 0 ≡ get_or s (2 * i + 1) 0)
+pair_digits s p b i e h l m is =
+    let d = digits.digit _ _ _ (ap (λ (q : List ℕ). get_or q i 0) e ∙ pair_at s i h) l in
+    let high : get_or p i 0 / 256 ^ 1 % 256 ≡ get_or s (2 * i + 1) 0 = omega (arith, d.1) in
+    (ap (λ (c : List ℕ). get_or c 0 0) is ∙ d.0, ap (λ (c : List ℕ). get_or c 1 0) is ∙ high)

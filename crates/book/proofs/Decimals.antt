@@ -1,5 +1,7 @@
--- A number's decimal digits: those of its tenth and one more, from 1 to most_digits of them.
-use Rattle.std.proofs.Common.{◌≡◌, ℕ, zero, suc, ◌+◌, ◌/◌, ◌%◌, ◌^◌, ◌<◌, ◌≤◌, Bool, true, false, cond, ltb, List, [], ◌∷◌, ◌++◌, length, ap, arith, length-append, le-ltb, lt-ltb}
+-- A number's decimal digits, from 1 to most_digits of them, are those that the library writes.
+use Rattle.std.proofs.Common.{◌≡◌, ℕ, zero, suc, ◌+◌, ◌/◌, ◌%◌, ◌^◌, ◌<◌, ◌≤◌, Bool, true, false, cond, ltb, List, [], ◌∷◌, ◌++◌, length, sym, ap, ◌∙◌, arith, length-append, le-ltb, lt-ltb}
+use Rattle.std.specs.Fmt.{decimal as written}
+use Rattle.std.proofs.lemmas.Fmt.{AppendsLastDigit, decimal_from_appends, decimal_step, length-decimal-le}
 use Rattle.book.specs.Limits.{most_digits}
 use Rattle.book.specs.Decimal.{digits_of, decimal}
 
@@ -20,19 +22,16 @@ length_least k n = (length_either (ltb n 10) (48 + n) (48 + n % 10) (digits_of k
 pub length_decimal : (n : ℕ) → (1 ≤ length (decimal n)) × (length (decimal n) ≤ most_digits)
 length_decimal n = (length_least _ n, length_most most_digits n)
 
--- more digits than a number has change nothing
-enough : (k n : ℕ) → n < 10 ^ suc k → digits_of (suc k) n ≡ digits_of (suc (suc k)) n
-unfolding digits_of
-enough zero n h = rw (lt-ltb n 10 (omega arith))
-enough (suc k) n h = ap (λ t. cond (ltb n 10) ((48 + n) ∷ []) (t ++ ((48 + n % 10) ∷ []))) (enough k (n / 10) (omega arith))
-
 pub decimal_small : (n : ℕ) → n < 10 → decimal n ≡ (48 + n) ∷ []
 unfolding digits_of
 decimal_small n h = rw (lt-ltb n 10 h)
 
-one_more : (k n : ℕ) → 10 ≤ n → n / 10 < 10 ^ suc k → digits_of (suc (suc k)) n ≡ digits_of (suc (suc k)) (n / 10) ++ ((48 + n % 10) ∷ [])
+appends : AppendsLastDigit digits_of
 unfolding digits_of
-one_more k n h l = rw (le-ltb n 10 h) (ap (λ t. t ++ ((48 + n % 10) ∷ [])) (enough k (n / 10) l))
+appends = record { one = λ k n h. rw (lt-ltb n 10 h); more = λ k n h. rw (le-ltb n 10 h) }
+
+decimal_is : (n : ℕ) → n < 2 ^ 64 → decimal n ≡ written n
+decimal_is n h = decimal_from_appends digits_of appends most_digits n h (length-decimal-le most_digits n (omega arith) (omega arith) h)
 
 pub decimal_more : (n : ℕ) → 10 ≤ n → n < 2 ^ 64 → decimal n ≡ decimal (n / 10) ++ ((48 + n % 10) ∷ [])
-decimal_more n h l = one_more _ n h (omega arith)
+decimal_more n h l = decimal_is n l ∙ decimal_step n h l ∙ ap (λ t. t ++ ((48 + n % 10) ∷ [])) (sym (decimal_is (n / 10) (omega arith)))

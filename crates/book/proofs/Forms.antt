@@ -1,6 +1,7 @@
 -- A later line that asks something begins with a word and a tab; the text after them is its only other field.
-use Rattle.std.proofs.Common.{◌≡◌, ℕ, suc, ◌+◌, ◌-◌, ◌<◌, ◌≤◌, Bool, true, false, List, [], ◌∷◌, ◌++◌, length, take, drop, sym, refl, ap, ◌∙◌, ⊎_elim, append_assoc, arith, length-append, length-drop, take-append-drop, take_all, take_at, le-ltb, lt-ltb, ne_eqb}
+use Rattle.std.proofs.Common.{◌≡◌, ℕ, suc, ◌+◌, ◌<◌, ◌≤◌, Bool, true, false, List, [], ◌∷◌, ◌++◌, length, take, drop, sym, refl, ap, ◌∙◌, ⊎_elim, append_assoc, arith, length-append, take-append-drop, take_all, take_at, le-ltb, lt-ltb, ne_eqb}
 use mathlib.Core.Option.{Option, none, some}
+use Rattle.std.specs.List.{IsSplitAt}
 use Rattle.octets.specs.Octets.{same}
 use Rattle.octets.proofs.Orders.{le_or_lt}
 use Rattle.octets.proofs.Same.{same_refl, same_is, sizes_differ}
@@ -55,16 +56,16 @@ module _ (word : List ℕ) where
   tabbed = word ++ (tab ∷ [])
 
   -- a line that begins with it, by what the text after it reads as
-  pub asked_is : ((s : List ℕ) → parts tab (word ++ (tab ∷ s)) ≡ word ∷ parts tab s) → (line : List ℕ) → length line ≤ most_line → same (take digits_at line) tabbed ≡ true
-      → (o : Option (List ℕ)) → o ≡ octets_of (take (length line - digits_at) (drop digits_at line)) → asked_of word o ≡ asked (fields line)
+  pub asked_is : ((s : List ℕ) → parts tab (word ++ (tab ∷ s)) ≡ word ∷ parts tab s) → (line front digits : List ℕ) → length line ≤ most_line → IsSplitAt line digits_at front digits
+      → same front tabbed ≡ true → (o : Option (List ℕ)) → o ≡ octets_of digits → asked_of word o ≡ asked (fields line)
   unfolding fields
-  asked_is h line fits e o r =
-      let rest : take (length line - digits_at) (drop digits_at line) ≡ drop digits_at line = take_all (length line - digits_at) (drop digits_at line) (omega (arith, length-drop digits_at line)) in
-      let whole : line ≡ word ++ (tab ∷ drop digits_at line)
-      = sym (take-append-drop digits_at line) ∙ ap (λ (p : List ℕ). p ++ drop digits_at line) (same_is (take digits_at line) tabbed e) ∙ append_assoc word (tab ∷ []) (drop digits_at line) in
-      ap (asked_of word) (r ∙ ap octets_of rest)
-      ∙ sym (two_fields word (drop digits_at line))
-      ∙ ap asked (sym (h (drop digits_at line)) ∙ ap (parts tab) (sym whole))
+  asked_is h line front digits fits split e o r =
+      let cut : front ++ digits ≡ line = rw (split.1, split.2) (take-append-drop digits_at line) in
+      let whole : line ≡ word ++ (tab ∷ digits)
+      = sym cut ∙ ap (λ (p : List ℕ). p ++ digits) (same_is front tabbed e) ∙ append_assoc word (tab ∷ []) digits in
+      ap (asked_of word) r
+      ∙ sym (two_fields word digits)
+      ∙ ap asked (sym (h digits) ∙ ap (parts tab) (sym whole))
       ∙ rw (le-ltb most_line (length line) fits)
 
   -- a line that doesn't has another one

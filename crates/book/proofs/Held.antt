@@ -1,5 +1,5 @@
 -- What is kept of a line tells all that the book says of it.
-use Rattle.std.proofs.Common.{◌≡◌, ℕ, ◌+◌, ◌<◌, ◌≤◌, ◌⊎◌, List, [], ◌∷◌, ◌++◌, length, take, sym, refl, ap, ◌∙◌, ap₂, inl, inr, ⊎_elim, arith, length-append, length-take-le, take_all, take-take, lt-ltb}
+use Rattle.std.proofs.Common.{◌≡◌, ℕ, ◌+◌, ◌-◌, ◌<◌, ◌≤◌, min, List, [], ◌∷◌, ◌++◌, length, take, sym, refl, ap, ◌∙◌, ap₂, ⊎_elim, arith, length-append, length-take-le, take_all, take-take, lt-ltb}
 use lib.Seq.{take-append-le, take-append-add}
 use Rattle.octets.proofs.Orders.{le_or_lt}
 use Rattle.book.specs.Limits.{most_kept, most_line}
@@ -43,32 +43,27 @@ pub same_next : (b : Book) (l m : List ℕ) → cut l ≡ cut m → book_next b 
 unfolding book_next
 same_next b l m e = ap (next_at b.stage b) (same_fields l m e)
 
--- n octets of x are kept behind p: all of m, or as many as there is room for
-cut_room : (p x : List ℕ) (n m : ℕ) → n ≤ m → length p + n ≤ most_kept → m ≤ length x → (n ≡ m) ⊎ (length p + n ≡ most_kept) → p ++ take n x ≡ cut (p ++ take m x)
-cut_room p x n m l r h (inl e) = rw e (sym (take_all most_kept (p ++ take m x) (omega (arith, length-append p (take m x), length-take-le m x h))))
-cut_room p x n m l r h (inr e) =
-    ap (λ (q : List ℕ). p ++ q) (sym (take-take n m x l)) ∙ sym (take-append-add p (take m x) n) ∙ ap (λ (k : ℕ). take k (p ++ take m x)) e
+-- n octets of x are kept behind p: all of them, or as many as there is room for
+cut_room : (p x : List ℕ) (n : ℕ) → n ≡ min (length x) (most_kept - length p) → length p ≤ most_kept → p ++ take n x ≡ cut (p ++ x)
+cut_room p x n e l =
+    ⊎_elim
+    (λ h. ap (λ (q : List ℕ). p ++ q) (take_all n x (omega arith)) ∙ sym (take_all most_kept (p ++ x) (omega (arith, length-append p x))))
+    (λ h. let full : length p + n ≡ most_kept = omega arith in sym (take-append-add p x n) ∙ ap (λ (k : ℕ). take k (p ++ x)) full)
+    (le_or_lt (length p + length x) most_kept)
 
-pub kept_cut : (line x : List ℕ) (kept n m : ℕ) → length line ≡ most_kept → kept + n ≤ most_kept → n ≤ m → m ≤ length x → (n ≡ m) ⊎ (kept + n ≡ most_kept)
-    → (end : ℕ) (line' : List ℕ) → end ≡ kept + length (take n x) → line' ≡ put kept (take n x) line → (end ≤ most_kept) × (take end line' ≡ cut (take kept line ++ take m x))
-kept_cut line x kept n m z r l h w end line' e p =
+pub kept_cut : (line x : List ℕ) (kept n : ℕ) → length line ≡ most_kept → kept ≤ most_kept → n ≡ min (length x) (most_kept - kept)
+    → (end : ℕ) (line' : List ℕ) → end ≡ kept + length (take n x) → line' ≡ put kept (take n x) line → take end line' ≡ cut (take kept line ++ x)
+kept_cut line x kept n z l h end line' e p =
     let size : length (take n x) ≡ n = length-take-le n x (omega arith) in
-    let front : length (take kept line) ≡ kept = length-take-le kept line (omega arith) in (
-      omega arith,
-      ap₂ (λ (i : ℕ) (y : List ℕ). take i y) e p ∙ take_put line kept (take n x) (omega arith)
-          ∙ cut_room (take kept line) x n m l (omega arith) h (either w front),
-    )
-  where
-    either : (n ≡ m) ⊎ (kept + n ≡ most_kept) → length (take kept line) ≡ kept → (n ≡ m) ⊎ (length (take kept line) + n ≡ most_kept)
-    either (inl e) f = inl e
-    either (inr e) f = inr (omega arith)
+    let front : length (take kept line) ≡ kept = length-take-le kept line (omega arith) in
+    ap₂ (λ (i : ℕ) (y : List ℕ). take i y) e p ∙ take_put line kept (take n x) (omega arith) ∙ cut_room (take kept line) x n (omega arith) (omega arith)
 
 -- a length of most_kept or more keeps all of a line
-pub kept_held : (line : List ℕ) (n k : ℕ) → length line ≡ most_kept → (n ≤ most_kept → k ≡ n) × (most_kept ≤ n → k ≡ most_kept) → take k line ≡ take n line
+pub kept_held : (line : List ℕ) (n k : ℕ) → length line ≡ most_kept → k ≡ min n most_kept → take k line ≡ take n line
 kept_held line n k z h =
     ⊎_elim
-    (λ l. ap (λ (i : ℕ). take i line) (h.0 l))
-    (λ l. take_all k line (omega (arith, h.1 (omega arith))) ∙ sym (take_all n line (omega arith)))
+    (λ l. let all : k ≡ n = omega arith in ap (λ (i : ℕ). take i line) all)
+    (λ l. take_all k line (omega arith) ∙ sym (take_all n line (omega arith)))
     (le_or_lt n most_kept)
 
 pub none_said : (b : Book) (l : List ℕ) → length l ≡ 0 → says b (unended l) ≡ []

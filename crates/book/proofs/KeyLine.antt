@@ -7,7 +7,11 @@ use Rattle.octets.proofs.Booleans.{both}
 use Rattle.octets.proofs.Orders.{le_or_lt}
 use Rattle.octets.proofs.Same.{same_is}
 use Rattle.rules.specs.Limits.{most_key_id, key_octets, address_octets}
-use Rattle.octets.specs.Search.{slice, index_of}
+use Rattle.std.proofs.Common.{◌==◌, Some, None, position}
+use Rattle.std.specs.Option.{option_eq}
+use Rattle.std.specs.declared.option.Option
+use Rattle.octets.specs.Search.{index_of}
+use Rattle.octets.proofs.Search.{found as tab_found}
 use Rattle.book.specs.Limits.{most_line}
 use Rattle.book.specs.declared.line.Keys.{Keys}
 use Rattle.book.specs.Hex.{digit, octets_of}
@@ -15,7 +19,8 @@ use Rattle.book.specs.Text.{tab, parts}
 use Rattle.book.specs.Line.{fields, field, key_word, is_hex, is_key_id, is_key_line}
 use Rattle.book.specs.Handed.{key_at, key_id_at, own_at, peer_at, key_line_octets, word_part, key_part, key_id_part, own_part, peer_part, KeyTabs, Given}
 use Rattle.book.proofs.Forms.{one_field}
-use Rattle.book.proofs.Parts.{whole_slice, parts_some, parts_found, parts_none}
+use Rattle.book.proofs.Parts.{parts_some, parts_found, parts_none}
+use Rattle.book.proofs.Searches.{answer}
 
 -- what a good line 1 says of its fields
 pub record KeyForm (fs : List (List ℕ)) : Type 0 where
@@ -159,27 +164,24 @@ tabs_of line p =
 pub never : {A : Type 0} → false ≡ true → A
 never e = absurd (let y : ◌≡◌ {A = ℕ} 0 1 = cc in omega arith)
 
--- where a search from i finds a tab
-module _ (line : List ℕ) (size : length line ≡ key_line_octets) (i n r : ℕ) (found : r ≡ i + index_of tab (slice i key_line_octets line)) where
-  from : r ≡ i + index_of tab (drop i line)
-  from = found ∙ ap (λ (m : ℕ). i + index_of tab (slice i m line)) (sym size) ∙ ap (λ (s : List ℕ). i + index_of tab s) (whole_slice line i)
+-- where a search of the line from i on finds a tab
+module _ (line : List ℕ) (i n : ℕ) (r : List ℕ) (is : r ≡ drop i line) (o : Option.Option ℕ) (found : o ≡ position (λ y. y == tab) r) (b : Bool) (test : b ≡ option_eq eqb o (Some n)) where
+  pub found_at : i + n < length line → index_of tab (drop i line) ≡ n → b ≡ true
+  found_at l e = test ∙ rw (found, ← answer tab r n (ap (index_of tab) is ∙ e) (omega (arith, ap length is, length-drop i line))) (eq-eqb n n refl)
 
-  pub found_at : index_of tab (drop i line) ≡ n → r ≡ i + n
-  found_at e = from ∙ ap (λ (m : ℕ). i + m) e
+  pub at_found : b ≡ true → index_of tab (drop i line) ≡ n
+  at_found e = ap (index_of tab) (sym is) ∙ (tab_found tab r n (by o (sym test ∙ e) ∙ found)).0
+    where
+      by : (o : Option.Option ℕ) → option_eq eqb o (Some n) ≡ true → Some n ≡ o
+      by None f = never f
+      by (Some m) f = ap Some (sym (eqb-true m n f))
 
-  pub at_found : r ≡ i + n → index_of tab (drop i line) ≡ n
-  at_found e = omega (arith, from)
+-- what digits that write something read as, and what digits that write nothing don't
+some_read : (s l : List ℕ) → some l ≡ octets_of s → not (is_none (octets_of s)) ≡ true
+some_read s l e = ap (λ (o : Option (List ℕ)). not (is_none o)) (sym e)
 
--- a line 1 that is not good
-pub refused : (k : Keys) (fs : List (List ℕ)) → k.good ≡ false → (is_key_line fs ≡ true → ⊥) → (k.good ≡ is_key_line fs) × (k.good ≡ true → Given fs k)
-refused k fs e h = (e ∙ refuted (is_key_line fs) h, λ g. never (sym e ∙ g))
-
-read_some : (s : List ℕ) → not (is_none (octets_of s)) ≡ true → octets_of s ≡ some (contents (octets_of s))
-read_some s e = go (octets_of s) e
-  where
-    go : (o : Option (List ℕ)) → not (is_none o) ≡ true → o ≡ some (contents o)
-    go none e = never e
-    go (some l) e = refl
+none_read : (s : List ℕ) → none ≡ octets_of s → not (is_none (octets_of s)) ≡ false
+none_read s e = ap (λ (o : Option (List ℕ)). not (is_none o)) (sym e)
 
 module _ (line : List ℕ) (t : KeyTabs line) where
   abbrev fs : List (List ℕ)
@@ -197,54 +199,51 @@ module _ (line : List ℕ) (t : KeyTabs line) where
   pub wrong_word : same (word_part line) key_word ≡ false → is_key_line (fields line) ≡ true → ⊥
   wrong_word b e = never (sym b ∙ (form e).word)
 
-  pub wrong_key : not (is_none (octets_of (key_part line))) ≡ false → is_key_line (fields line) ≡ true → ⊥
-  wrong_key b e = never (sym b ∙ hex_read key_octets (field fs 1) (form e).key)
+  pub wrong_key : none ≡ octets_of (key_part line) → is_key_line (fields line) ≡ true → ⊥
+  wrong_key b e = never (sym (none_read _ b) ∙ hex_read key_octets (field fs 1) (form e).key)
 
   pub wrong_id : most_key_id < digit (get_or line key_id_at 0) → is_key_line (fields line) ≡ true → ⊥
   unfolding is_key_id
   wrong_id l e = let z = leb-true (digit (get_or line key_id_at 0)) most_key_id (ap is_key_id (sym id_is) ∙ (form e).id) in omega arith
 
-  pub wrong_own : not (is_none (octets_of (own_part line))) ≡ false → is_key_line (fields line) ≡ true → ⊥
-  wrong_own b e = never (sym b ∙ hex_read address_octets (field fs 3) (form e).own)
+  pub wrong_own : none ≡ octets_of (own_part line) → is_key_line (fields line) ≡ true → ⊥
+  wrong_own b e = never (sym (none_read _ b) ∙ hex_read address_octets (field fs 3) (form e).own)
 
-  pub wrong_peer : not (is_none (octets_of (peer_part line))) ≡ false → is_key_line (fields line) ≡ true → ⊥
+  pub wrong_peer : none ≡ octets_of (peer_part line) → is_key_line (fields line) ≡ true → ⊥
   wrong_peer b e =
       let q = parts_some tab (drop peer_at line) in
       let f = form e in
       let one : q.1.0 ≡ [] = no_more q.1.0 (omega (arith, ap length q.1.1, f.five)) in
       let is : field fs 4 ≡ drop peer_at line = ap (λ (r : List (List ℕ)). field r 0) q.1.1 ∙ last_part (drop peer_at line) q.0 (q.1.1 ∙ ap (λ (r : List (List ℕ)). q.0 ∷ r) one) in
-      never (sym b ∙ ap (λ (s : List ℕ). not (is_none (octets_of s))) (peer_all ∙ sym is) ∙ hex_read address_octets (field fs 4) f.peer)
+      never (sym (none_read _ b) ∙ ap (λ (s : List ℕ). not (is_none (octets_of s))) (peer_all ∙ sym is) ∙ hex_read address_octets (field fs 4) f.peer)
     where
       no_more : (r : List (List ℕ)) → length r ≡ 0 → r ≡ []
       no_more [] h = refl
       no_more (x ∷ r) h = absurd (omega arith)
 
   -- a good one
-  pub good_line : (k : Keys) → k.good ≡ true → same (word_part line) key_word ≡ true
-      → not (is_none (octets_of (key_part line))) ≡ true → k.key ≡ contents (octets_of (key_part line))
-      → k.key_id ≡ digit (get_or line key_id_at 0) → digit (get_or line key_id_at 0) ≤ most_key_id
-      → not (is_none (octets_of (own_part line))) ≡ true → k.own ≡ contents (octets_of (own_part line))
-      → not (is_none (octets_of (peer_part line))) ≡ true → k.peer ≡ contents (octets_of (peer_part line))
-      → (k.good ≡ is_key_line (fields line)) × (k.good ≡ true → Given (fields line) k)
+  pub good_line : (k : Keys) → same (word_part line) key_word ≡ true → some k.key ≡ octets_of (key_part line)
+      → k.key_id ≡ digit (get_or line key_id_at 0) → k.key_id ≤ most_key_id → some k.own ≡ octets_of (own_part line) → some k.peer ≡ octets_of (peer_part line)
+      → (true ≡ is_key_line (fields line)) × Given (fields line) k
   unfolding is_key_id
-  good_line k g w kr ke ie il or oe pr pe =
-      let pr' = ap (λ (s : List ℕ). not (is_none (octets_of s))) (sym peer_all) ∙ pr in
-      let one = one_field (drop peer_at line) _ (read_some (drop peer_at line) pr') in
+  good_line k w ke ie il oe pe =
+      let pe' : some k.peer ≡ octets_of (drop peer_at line) = pe ∙ ap octets_of peer_all in
+      let one = one_field (drop peer_at line) k.peer (sym pe') in
       let is : fields line ≡ word_part line ∷ key_part line ∷ key_id_part line ∷ own_part line ∷ drop peer_at line ∷ []
       = t.placed ∙ ap (λ (r : List (List ℕ)). word_part line ∷ key_part line ∷ key_id_part line ∷ own_part line ∷ r) one in
       let ends = t.size in (
-        g ∙ key_line (fields line) (rw is (record {
+        key_line (fields line) (rw is (record {
           five = refl;
           word = w;
-          key = is_hex_lem key_octets (key_part line) (length-take-le (2 * key_octets) (drop key_at line) (omega (arith, length-drop key_at line))) kr;
-          id = ap is_key_id id_is ∙ le-leb (digit (get_or line key_id_at 0)) most_key_id il;
-          own = is_hex_lem address_octets (own_part line) (length-take-le (2 * address_octets) (drop own_at line) (omega (arith, length-drop own_at line))) or;
-          peer = is_hex_lem address_octets (drop peer_at line) (length-drop peer_at line ∙ omega arith) pr';
+          key = is_hex_lem key_octets (key_part line) (length-take-le (2 * key_octets) (drop key_at line) (omega (arith, length-drop key_at line))) (some_read _ _ ke);
+          id = ap is_key_id id_is ∙ le-leb (digit (get_or line key_id_at 0)) most_key_id (omega arith);
+          own = is_hex_lem address_octets (own_part line) (length-take-le (2 * address_octets) (drop own_at line) (omega (arith, length-drop own_at line))) (some_read _ _ oe);
+          peer = is_hex_lem address_octets (drop peer_at line) (length-drop peer_at line ∙ omega arith) (some_read _ _ pe');
         })),
-        λ e. rw is (record {
-          key_is = ke;
+        rw is (record {
+          key_is = ap contents ke;
           key_id_is = ie ∙ ap (λ (s : List ℕ). digit (get_or s 0 0)) (sym id_is);
-          own_is = oe;
-          peer_is = pe ∙ ap (λ (s : List ℕ). contents (octets_of s)) peer_all;
+          own_is = ap contents oe;
+          peer_is = ap contents pe';
         }),
       )

@@ -8,7 +8,7 @@ mod Held
 pub mod Hexadecimals
 mod KeyLine
 mod Lines
-mod Parts
+pub mod Parts
 mod Puts
 mod Searches
 mod Turns

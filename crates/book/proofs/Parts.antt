@@ -1,12 +1,11 @@
 -- The first part of a text, and the parts of two texts together.
-use Rattle.std.proofs.Common.{◌≡◌, ℕ, suc, ◌<◌, ◌≤◌, Bool, true, false, cond, eqb, List, [], ◌∷◌, ◌++◌, length, take, drop, refl, ap, arith, eqb-true}
-use lib.Seq.{take-length}
-use Rattle.octets.specs.Search.{slice, index_after, index_of}
+use Rattle.std.proofs.Common.{◌≡◌, ℕ, suc, ◌-◌, ◌<◌, ◌≤◌, Bool, true, false, cond, eqb, List, [], ◌∷◌, ◌++◌, length, take, drop, refl, ap, arith, length-drop, take_all, eqb-true}
+use Rattle.octets.specs.Search.{index_after, index_of}
 use Rattle.book.specs.Text.{prefix, parts, all_but_last, last_of}
 
-pub whole_slice : (s : List ℕ) (i : ℕ) → slice i (length s) s ≡ drop i s
-unfolding slice
-whole_slice s i = ap (drop i) (take-length s)
+-- the rest of a text from a place on
+pub rest_of : (s : List ℕ) (i : ℕ) → take (length s - i) (drop i s) ≡ drop i s
+rest_of s i = take_all (length s - i) (drop i s) (omega (arith, length-drop i s))
 
 -- the parts are never none
 pub parts_some : (x : ℕ) (s : List ℕ) → (p : List ℕ) × ((ps : List (List ℕ)) × (parts x s ≡ p ∷ ps))

@@ -1,7 +1,8 @@
 -- Text in a room is what a run of stores leaves; text behind it lengthens it, and its last octet can be stored first.
-use Rattle.std.proofs.Common.{◌≡◌, ℕ, suc, ◌+◌, ◌-◌, ◌<◌, ◌≤◌, List, [], ◌∷◌, ◌++◌, length, take, drop, set, sym, ap, ◌∙◌, ap₂, append_assoc, append-nil, arith, length-append, length-drop, length-set, drop_of_length-le, length-take-le, take_all, drop-cons, get_or-set_same, drop-drop, take_at, drop-set-lt, drop_at}
-use lib.Seq.{sets, sets-eq, append_snoc, take-length, take-set-le}
-use Rattle.book.specs.Put.{put}
+use Rattle.std.proofs.Common.{◌≡◌, ℕ, suc, ◌+◌, ◌<◌, ◌≤◌, List, [], ◌∷◌, ◌++◌, length, take, drop, set, sym, refl, ap, ◌∙◌, ap₂, subst, add-zero, append_assoc, append-nil, arith, length-append, length-set, drop_of_length-le, length-take-le, take-append-drop, drop-cons, get_or-set_same, drop-drop, take_at, drop-set-lt, drop_at}
+use lib.Seq.{sets, sets-eq, append_snoc, take-set-le}
+use Rattle.book.specs.declared.put.Page.{Page}
+use Rattle.book.specs.Put.{put, HasRoom, Writes}
 
 pub stored : (at : ℕ) (text room : List ℕ) → at + length text ≤ length room → sets room at text ≡ put at text room
 stored at text room h = sets-eq text room at h ∙ append_assoc (take at room) text (drop (at + length text) room)
@@ -15,17 +16,9 @@ put_last at text room x h =
     let n : at + length (text ++ (x ∷ [])) ≡ suc e = omega (arith, length-append text (x ∷ [])) in
     rw (take-set-le at room e x (omega arith), d, n) (ap (λ l. take at room ++ l) (sym (append_snoc text x (drop (suc e) room))))
 
--- a text of n octets copied over the part of o from `at` to its end
-pub part_put : (text o : List ℕ) (at : ℕ) → at + length text ≤ length o
-    → take at o ++ ((take (length text) text ++ drop (length text) (take (length o - at) (drop at o))) ++ drop (length o - at) (drop at o)) ≡ put at text o
-part_put text o at l =
-    let size = length-drop at o in
-    ap₂ (λ (x y : List ℕ). take at o ++ ((take (length text) text ++ drop (length text) x) ++ y))
-    (take_all (length o - at) (drop at o) (omega arith))
-    (drop_of_length-le (drop at o) {i = length o - at} (omega arith))
-    ∙ ap (λ (x : List ℕ). take at o ++ x) (append-nil (take (length text) text ++ drop (length text) (drop at o)))
-    ∙ ap₂ (λ (x y : List ℕ). take at o ++ (x ++ y)) (take-length text)
-    (drop-drop (length text) at o)
+-- text that fills the room
+pub put_all : (text room : List ℕ) → length room ≡ length text → put 0 text room ≡ text
+put_all text room e = ap (λ (l : List ℕ). text ++ l) (drop_of_length-le room {i = 0 + length text} (omega arith)) ∙ append-nil text
 
 module _ (o : List ℕ) (at : ℕ) (a : List ℕ) (l : at + length a ≤ length o) where
   abbrev front : List ℕ
@@ -58,20 +51,23 @@ pub put_within : (at : ℕ) (text o : List ℕ) → at ≤ length o → length (
 put_within at text o l e =
     omega (arith, length-append (take at o) (text ++ drop (at + length text) o), length-append text (drop (at + length text) o), length-take-le at o l)
 
--- what is said of a text is said of one that is the same
-pub as_text : (at : ℕ) (o t u out : List ℕ) (end : ℕ) → t ≡ u → (end ≡ at + length t) × (out ≡ put at t o) → (end ≡ at + length u) × (out ≡ put at u o)
-as_text at o t u out end e h = (h.0 ∙ ap (λ (x : List ℕ). at + length x) e, h.1 ∙ ap (λ (x : List ℕ). put at x o) e)
+-- nothing written
+pub put_nothing : (at : ℕ) (o : List ℕ) → put at [] o ≡ o
+put_nothing at o = rw (add-zero at) (take-append-drop at o)
 
--- text laid at a place, and the place after it
-pub record Laid (at : ℕ) (o text out : List ℕ) (end : ℕ) : Type 0 where
-  pub is : out ≡ put at text o
-  pub ends : end ≡ at + length text
+pub writes_none : (p : Page) → Writes p [] p
+writes_none p = record { same_room = refl; size = refl; ends = sym (add-zero p.end); is = sym (put_nothing p.end p.room.now) }
 
--- more text behind it
-pub laid_more : (at : ℕ) (o a b out out' : List ℕ) (end end' : ℕ) → at + length a ≤ length o → Laid at o a out end → out' ≡ put end b out → end' ≡ end + length b
-    → Laid at o (a ++ b) out' end'
-laid_more at o a b out out' end end' l h e n =
+-- more text behind a text
+pub writes_more : (p q r : Page) (a b : List ℕ) → HasRoom p (length a) → Writes p a q → Writes q b r → Writes p (a ++ b) r
+writes_more p q r a b l v w =
     record {
-      is = e ∙ ap₂ (λ (x : ℕ) (y : List ℕ). put x b y) h.ends h.is ∙ put_put o at a l b;
-      ends = omega (arith, h.ends, length-append a b);
+      same_room = w.same_room ∙ v.same_room;
+      size = w.size ∙ v.size;
+      ends = omega (arith, v.ends, w.ends, length-append a b);
+      is = w.is ∙ ap₂ (λ (x : ℕ) (y : List ℕ). put x b y) v.ends v.is ∙ put_put p.room.now p.end a l b;
     }
+
+-- what is said of a text is said of one that is the same
+pub writes_as : (p q : Page) (t u : List ℕ) → t ≡ u → Writes p t q → Writes p u q
+writes_as p q t u e w = subst (λ (x : List ℕ). Writes p x q) e w

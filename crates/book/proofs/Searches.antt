@@ -1,7 +1,9 @@
 -- The first x of a text in two parts is in the first of them, or it is the first one of the second.
-use Rattle.std.proofs.Common.{◌≡◌, ℕ, suc, ◌+◌, ◌-◌, ◌<◌, ◌≤◌, Bool, true, false, ◌||◌, eqb, ltb, List, [], ◌∷◌, ◌++◌, length, get_or, take, drop, sym, refl, ap, ◌∙◌, add-one, arith, length-drop, take-append-drop, length-take-le, take-suc, drop-drop, take-add, drop_at, ltb-false, lt-ltb}
+use Rattle.std.proofs.Common.{◌≡◌, ◌==◌, ℕ, suc, ◌+◌, ◌<◌, ◌≤◌, Bool, true, false, cond, ◌||◌, eqb, ltb, List, [], ◌∷◌, ◌++◌, length, get_or, take, drop, Some, None, position, sym, refl, ap, ◌∙◌, add-one, arith, length-drop, take-append-drop, length-take-le, take-suc, drop-drop, lt-ltb, le-ltb}
+use Rattle.std.proofs.lemmas.List.Recursion.{is_position_or_len}
+use Rattle.std.specs.List.{position_or_len}
 use lib.Dec.{leb-suc-suc}
-use Rattle.octets.specs.Search.{slice, index_after, index_of}
+use Rattle.octets.specs.Search.{index_after, index_of}
 
 module _ (x : ℕ) where
   -- whether x is among the octets
@@ -43,32 +45,39 @@ module _ (x : ℕ) where
       step true ih h = absurd (omega arith)
       step false ih h = omega (arith, ih (omega arith))
 
-  module _ (s : List ℕ) (at to : ℕ) (l : at ≤ to) (m : to ≤ length s) where
+  -- n octets from a place on
+  module _ (s : List ℕ) (at n : ℕ) (l : at + n ≤ length s) where
     abbrev part : List ℕ
-    part = take (to - at) (drop at s)
+    part = take n (drop at s)
 
-    size : length part ≡ to - at
-    size = length-take-le (to - at) (drop at s) (omega (arith, length-drop at s))
+    size : length part ≡ n
+    size = length-take-le n (drop at s) (omega (arith, length-drop at s))
 
-    place : at + (to - at) ≡ to
-    place = omega arith
+    parts : drop at s ≡ part ++ drop (at + n) s
+    parts = sym (take-append-drop n (drop at s)) ∙ ap (λ t. part ++ t) (drop-drop n at s)
 
-    parts : drop at s ≡ part ++ drop to s
-    parts = sym (take-append-drop (to - at) (drop at s)) ∙ ap (λ t. part ++ t) (drop-drop (to - at) at s ∙ ap (λ k. drop k s) place)
+    pub here : (i : ℕ) → (index_of x part ≡ i) × (i < length part) → index_of x (drop at s) ≡ i
+    here i e = ap (index_of x) parts ∙ in_first part (drop (at + n) s) (omega (arith, e)) ∙ e.0
 
-    slice_is : slice at to s ≡ part
-    unfolding slice
-    slice_is = ap (λ k. drop at (take k s)) (sym place) ∙ ap (drop at) (take-add at (to - at) s) ∙ drop_at (take at s) part at (length-take-le at s (omega arith))
+    pub beyond : length part ≤ index_of x part → index_of x (drop at s) ≡ n + index_of x (drop (at + n) s)
+    beyond e = omega (arith, size, ap (index_of x) parts ∙ in_second part (drop (at + n) s) e)
 
-    module _ (r : ℕ) (e : r ≡ at + index_of x (slice at to s)) where
-      found : r ≡ at + index_of x part
-      found = e ∙ ap (λ (t : List ℕ). at + index_of x t) slice_is
+  after : (b : Bool) (n : ℕ) → index_after b n ≡ cond b 0 (1 + n)
+  unfolding index_after
+  after true n = refl
+  after false n = omega arith
 
-      pub here : r < to → r ≡ at + index_of x (drop at s)
-      here h = omega (arith, found, size, ap (index_of x) parts ∙ in_first part (drop to s) (omega (arith, found, size)))
+  -- the place as `position` says it
+  module _ (s : List ℕ) where
+    index_is : index_of x s ≡ position_or_len (λ y. y == x) s
+    unfolding index_of
+    index_is = is_position_or_len (index_of x) (λ y. y == x) refl (λ y t. after (y == x) (index_of x t)) s
 
-      pub later : to ≤ r → at + index_of x (drop at s) ≡ to + index_of x (drop to s)
-      later h = omega (arith, size, ap (index_of x) parts ∙ in_second part (drop to s) (omega (arith, found, size)))
+    answer_is : position (λ y. y == x) s ≡ cond (ltb (index_of x s) (length s)) (Some (index_of x s)) None
+    answer_is = rw index_is
 
-    pub lacking : among part ≡ false → at + index_of x (drop at s) ≡ to + index_of x (drop to s)
-    lacking e = omega (arith, size, ap (index_of x) parts ∙ in_second part (drop to s) (ltb-false (index_of x part) (length part) e))
+    pub answer : (i : ℕ) → index_of x s ≡ i → i < length s → Some i ≡ position (λ y. y == x) s
+    answer i e h = sym (answer_is ∙ rw (e, lt-ltb i (length s) h))
+
+    pub nothing : index_of x s ≡ length s → None ≡ position (λ y. y == x) s
+    nothing e = sym (answer_is ∙ rw (e, le-ltb (length s) (length s) (omega arith)))

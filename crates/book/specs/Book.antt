@@ -4,13 +4,11 @@ use Rattle.octets.specs.Options.{contents}
 use Rattle.rules.specs.Mode.{added}
 use Rattle.rules.specs.Limits.{small_window}
 use Rattle.rules.specs.Records.{zero_sender, zero_receiver, fresh_sender, fresh_receiver}
-use Rattle.rules.specs.Answers.{answer_number}
+use Rattle.rules.specs.Answers.{Answer, Done, Refused, answer_number}
 use Rattle.rules.specs.Sealing.{seal_answer, seal_next, seal_output}
 use Rattle.rules.specs.Opening.{open_answer, open_next, open_output}
 use Rattle.rules.specs.declared.Sender.{Sender}
 use Rattle.rules.specs.declared.Receiver.{Receiver}
-use Rattle.rules.specs.declared.Answer.{Answer}
-use Rattle.rules.specs.declared.Answer.TheVariants.{Done, Refused}
 use Rattle.book.specs.declared.Book.{Book}
 use Rattle.book.specs.declared.Stage.{Stage}
 use Rattle.book.specs.declared.Stage.TheVariants.{First, Going, Ended}

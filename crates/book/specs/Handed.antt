@@ -1,31 +1,33 @@
 -- How the functions inside this crate hand on what they read and wrote. No public contract cites these.
-use Rattle.std.specs.Prelude.{◌≡◌, ℕ, ◌+◌, ◌*◌, List, [], ◌∷◌, ◌++◌, length, take, drop, slice_index}
-use Rattle.std.proofs.Math.Option.{Option, none, some}
+use Rattle.std.specs.Prelude.{◌≡◌, ℕ, ◌+◌, ◌*◌, List, [], ◌∷◌, ◌++◌, length, take, drop, slice_index, Option, Some, None, Result, Ok, Err}
+use Rattle.std.proofs.Math.Option as maybe
 use Rattle.octets.specs.Options.{contents}
 use Rattle.rules.specs.Limits.{key_octets, address_octets}
-use Rattle.rules.specs.Answers.{answer_number}
-use Rattle.rules.specs.declared.Answer.{Answer}
-use Rattle.rules.specs.declared.Answer.TheVariants.{Done, Refused}
-use Rattle.book.specs.declared.hex.Read.{Read}
-use Rattle.book.specs.declared.hex.Read.TheVariants as read
+use Rattle.rules.specs.Answers.{Answer, Done, Refused, answer_number}
+use Rattle.rules.specs.Refusals.{refusal_number}
+use Rattle.rules.specs.declared.answer.Refusal.{Refusal}
 use Rattle.book.specs.declared.line.Keys.{Keys}
 use Rattle.book.specs.declared.line.Request.{Request}
-use Rattle.book.specs.declared.line.Request.TheVariants.{Malformed, Seal, Open}
+use Rattle.book.specs.declared.line.Request.TheVariants.{Seal, Open}
 use Rattle.book.specs.Decimal.{decimal}
 use Rattle.book.specs.Hex.{digit, octets_of}
 use Rattle.book.specs.Text.{tab, line_feed, parts}
 use Rattle.book.specs.Line.{fields, field, key_word, Asked, malformed, sealing, opening}
 use Rattle.book.specs.Book.{shown}
 
--- what a reading into out found
-abbrev pub read_in : Read → List ℕ → Option (List ℕ)
-read_in read.Malformed out = none
-read_in (read.Octets n) out = some (take n out)
+-- what a reading into out found, by how many octets it found
+abbrev pub read_in : Option ℕ → List ℕ → maybe.Option (List ℕ)
+read_in None out = maybe.none
+read_in (Some n) out = maybe.some (take n out)
 
--- how many octets it found
-abbrev pub count_in : Read → ℕ
-count_in read.Malformed = 0
-count_in (read.Octets n) = n
+abbrev pub count_in : Option ℕ → ℕ
+count_in None = 0
+count_in (Some n) = n
+
+-- what a reading of an array found
+abbrev pub array_in : Option (List ℕ) → maybe.Option (List ℕ)
+array_in None = maybe.none
+array_in (Some l) = maybe.some l
 
 -- how many octets are read at once, from digits two by two as one number each
 abbrev pub block : ℕ
@@ -36,17 +38,17 @@ pairs [] = []
 pairs (x ∷ []) = []
 pairs (x ∷ y ∷ t) = (x + 256 * y) ∷ pairs t
 
--- what a request asks, its frame being in the front of a room
-abbrev pub request_in : Request → List ℕ → Asked
-request_in Malformed room = malformed
-request_in (Seal n) room = sealing (take n room)
-request_in (Open n) room = opening (take n room)
+-- what a line asks, its frame being in the front of a room
+abbrev pub request_in : Option Request → List ℕ → Asked
+request_in None room = malformed
+request_in (Some (Seal n)) room = sealing (take n room)
+request_in (Some (Open n)) room = opening (take n room)
 
 -- the octets of that frame
-abbrev pub frame_in : Request → ℕ
-frame_in Malformed = 0
-frame_in (Seal n) = n
-frame_in (Open n) = n
+abbrev pub frame_in : Option Request → ℕ
+frame_in None = 0
+frame_in (Some (Seal n)) = n
+frame_in (Some (Open n)) = n
 
 -- where the fields of a good line 1 begin, each a tab after the one before it, and the octets of that line
 abbrev pub key_at : ℕ
@@ -99,6 +101,11 @@ tabbed word = tab ∷ (word ++ (tab ∷ []))
 -- an answer's line, its word being between tabs
 abbrev pub answer_text : ℕ → List ℕ → Answer → List ℕ → List ℕ
 answer_text n word a output = decimal n ++ (word ++ (decimal (answer_number a) ++ (tab ∷ (shown a output ++ (line_feed ∷ [])))))
+
+-- an answer, by the octets that it wrote or its refusal
+abbrev pub as_answer : Result ℕ Refusal → Answer
+as_answer (Ok k) = Done 0 0 k
+as_answer (Err x) = Refused (refusal_number x)
 
 -- the octets that an answer wrote
 abbrev pub octets_written : Answer → ℕ

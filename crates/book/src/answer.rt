@@ -1,20 +1,19 @@
 // A book's answer to a line.
-ghost use Rattle.std.specs.Prelude.{◌≡◌, ◌+◌, ◌≤◌, length};
+ghost use Rattle.std.specs.Prelude.{◌≡◌, ◌≤◌, length};
 ghost use Rattle.rules.specs.Sealing.{seal_next};
 ghost use Rattle.rules.specs.Opening.{open_next};
 ghost use Rattle.book.specs.Limits.{most_answer, most_result, most_frame, word_octets};
-ghost use Rattle.book.specs.Put.{put};
+ghost use Rattle.book.specs.Put.{HasRoom, Writes};
 ghost use Rattle.book.specs.Line.{fields};
 ghost use Rattle.book.specs.Book.{room_for, bad_line, seal_line, open_line, begun, says_at};
-ghost use Rattle.book.specs.Handed.{answer_text, octets_written};
+ghost use Rattle.book.specs.Handed.{as_answer, answer_text, octets_written};
 
-use crate::decimal::{MOST_DIGITS, put_decimal};
-use crate::hex::put_hex;
+use crate::decimal::MOST_DIGITS;
 use crate::line::{MOST_LINE, keys_of};
-use crate::put::put_text;
+use crate::put::Page;
 use crate::{Book, Stage};
 use ccmp::{ADDED, SMALL_WINDOW};
-use rules::{Answer, Receiver, Sender};
+use rules::{Receiver, Refusal, Sender};
 
 // The octets of a line's frame at most, of its result, to which sealing adds some, and of the answer: two numbers, a word
 // between tabs, a tab, the result's digits and a line feed.
@@ -26,76 +25,66 @@ const WORD_OCTETS: usize = 6;
 
 pub const MOST_ANSWER: usize = MOST_DIGITS + WORD_OCTETS + MOST_DIGITS + 1 + 2 * MOST_RESULT + 1;
 
-// The sender, the receiver or the book after a line, and the place after what was written.
-#[derive(Clone, Copy)]
-pub(crate) struct SealTurn {
-    pub(crate) sender: Sender,
-    pub(crate) end: usize,
-}
-
-#[derive(Clone, Copy)]
-pub(crate) struct OpenTurn {
-    pub(crate) receiver: Receiver,
-    pub(crate) end: usize,
-}
-
-#[derive(Clone, Copy)]
-pub(crate) struct Turn {
-    pub(crate) book: Book,
-    pub(crate) end: usize,
-}
-
 // The answer to a bad line.
-pub(crate) fn put_bad(n: u64, out: &mut [u8], at: usize) -> usize
-    requires { at + most_answer ≤ length out.old }
-    ensures value { result ≡ at + length (bad_line n) }
-    ensures out_after { out.new ≡ put at (bad_line n) out.old }
+#[tactic(auto, using(crate::proofs::Decimals::length_decimal))]
+pub(crate) fn put_bad(n: u64, page: &mut Page)
+    requires { HasRoom page.old most_answer }
+    ensures { Writes page.old (bad_line n) page.new }
 {
-    let end = put_decimal(n, out, at);
-    put_text(b"\tbad\n", out, end)
+    page.decimal(n);
+    page.text(b"\tbad\n");
 }
 
-// A line number, a word between tabs, an answer's number, and the frame in the front of result or `-`.
-fn put_answer(n: u64, word: &[u8], a: Answer, res: &[u8], out: &mut [u8], at: usize) -> usize
-    requires most_answer_in_bounds { (at + most_answer ≤ length out.old) × (length word.now ≡ word_octets) }
-    requires a_in_bounds { (octets_written a ≤ length res.now) × (length res.now ≡ most_result) }
-    ensures value { result ≡ at + length (answer_text n word.now a res.now) }
-    ensures out_after { out.new ≡ put at (answer_text n word.now a res.now) out.old }
+// A line number, a word between tabs, an answer's number, and the frame, so many octets of the result, or `-`.
+#[tactic(auto, using(crate::proofs::Decimals::length_decimal))]
+fn put_answer(
+    n: u64,
+    word: &[u8],
+    a: Result<usize, Refusal>,
+    res: &[u8; MOST_RESULT],
+    page: &mut Page,
+)
+    requires most_answer_in_bounds { HasRoom page.old most_answer × (length word.now ≡ word_octets) }
+    requires a_in_bounds { octets_written (as_answer a) ≤ length res.now }
+    ensures { Writes page.old (answer_text n word.now (as_answer a) res.now) page.new }
 {
-    let number = put_decimal(n, out, at);
-    let end = put_text(word, out, number);
+    page.decimal(n);
+    page.text(word);
     match a {
-        Answer::Done(_, _, k) => {
-            let answer = put_text(b"0\t", out, end);
-            let frame = put_hex(&res[..k], out, answer);
-            put_text(b"\n", out, frame)
+        Ok(k) => {
+            page.text(b"0\t");
+            page.hex(&res[..k]);
+            page.text(b"\n");
         }
-        Answer::Refused(x) => {
-            let answer = put_decimal(x as u64, out, end);
-            put_text(b"\t-\n", out, answer)
+        Err(refusal) => {
+            page.decimal(u64::from(refusal.number()));
+            page.text(b"\t-\n");
         }
     }
 }
 
-// The answer to a line that asks to seal a frame, and the sender after it. The result is lent for the work.
+// The answer to a line that asks to seal a frame, and the sender after it. The result is lent for the work. This and the next are
+// three lines each, which differ in the call, the word and the definitions of their clauses: one function over both would be longer.
 pub(crate) fn seal_line(
     n: u64,
     s: Sender,
     frame: &[u8],
-    res: &mut [u8],
-    out: &mut [u8],
-    at: usize,
-) -> SealTurn
-    requires { (at + most_answer ≤ length out.old) × (length frame.now ≤ most_frame) × (length res.old ≡ most_result) }
-    ensures sender_value { result.sender ≡ seal_next s frame.now (room_for frame.now) }
-    ensures end_value { result.end ≡ at + length (seal_line n s frame.now) }
-    ensures out_after { out.new ≡ put at (seal_line n s frame.now) out.old }
+    res: &mut [u8; MOST_RESULT],
+    page: &mut Page,
+) -> Sender
+    requires { HasRoom page.old most_answer × (length frame.now ≤ most_frame) }
+    ensures sender_value { result ≡ seal_next s frame.now (room_for frame.now) }
+    ensures page_after { Writes page.old (seal_line n s frame.now) page.new }
 {
     let sealed = ccmp::seal(s, frame, res);
-    let a = sealed.answer;
-    let sender = sealed.sender;
-    let end = put_answer(n, b"\tseal\t", a, res, out, at);
-    SealTurn { sender, end }
+    put_answer(
+        n,
+        b"\tseal\t",
+        sealed.answer.map(|done| done.octets),
+        res,
+        page,
+    );
+    sealed.sender
 }
 
 // The same for a line that asks to open a frame.
@@ -103,59 +92,43 @@ pub(crate) fn open_line(
     n: u64,
     r: Receiver,
     frame: &[u8],
-    res: &mut [u8],
-    out: &mut [u8],
-    at: usize,
-) -> OpenTurn
-    requires { (at + most_answer ≤ length out.old) × (length frame.now ≤ most_frame) × (length res.old ≡ most_result) }
-    ensures receiver_value { result.receiver ≡ open_next r frame.now (room_for frame.now) }
-    ensures end_value { result.end ≡ at + length (open_line n r frame.now) }
-    ensures out_after { out.new ≡ put at (open_line n r frame.now) out.old }
+    res: &mut [u8; MOST_RESULT],
+    page: &mut Page,
+) -> Receiver
+    requires { HasRoom page.old most_answer × (length frame.now ≤ most_frame) }
+    ensures receiver_value { result ≡ open_next r frame.now (room_for frame.now) }
+    ensures page_after { Writes page.old (open_line n r frame.now) page.new }
 {
     let opened = ccmp::open(r, frame, res);
-    let a = opened.answer;
-    let receiver = opened.receiver;
-    let end = put_answer(n, b"\topen\t", a, res, out, at);
-    OpenTurn { receiver, end }
+    put_answer(
+        n,
+        b"\topen\t",
+        opened.answer.map(|done| done.octets),
+        res,
+        page,
+    );
+    opened.receiver
 }
 
-// Line 1.
-pub(crate) fn first_line(b: Book, line: &[u8], out: &mut [u8], at: usize) -> Turn
-    requires { at + most_answer ≤ length out.old }
-    ensures book_value { result.book ≡ begun b (fields line.now) }
-    ensures end_value { result.end ≡ at + length (says_at Stage.First b (fields line.now)) }
-    ensures out_after { out.new ≡ put at (says_at Stage.First b (fields line.now)) out.old }
+// The book after line 1.
+pub(crate) fn first_line(b: Book, line: &[u8], page: &mut Page) -> Book
+    requires { HasRoom page.old most_answer }
+    ensures book_value { result ≡ begun b (fields line.now) }
+    ensures page_after { Writes page.old (says_at Stage.First b (fields line.now)) page.new }
 {
-    let n = std::num::wrapping_add_u64(b.lines, 1);
-    let k = keys_of(line);
-    if !k.good {
-        let end = put_bad(n, out, at);
-        let sender = b.sender;
-        let receiver = b.receiver;
-        return Turn {
-            book: Book {
-                lines: n,
-                stage: Stage::Ended,
-                sender,
-                receiver,
-            },
-            end,
+    let lines = b.lines.wrapping_add(1);
+    let Some(k) = keys_of(line) else {
+        put_bad(lines, page);
+        return Book {
+            lines,
+            stage: Stage::Ended,
+            ..b
         };
-    }
-    let key = k.key;
-    let own = k.own;
-    let peer = k.peer;
-    let sealed = ccmp::fresh_sender(key, k.key_id, own);
-    let opened = ccmp::fresh_receiver(key, k.key_id, peer, SMALL_WINDOW);
-    let sender = sealed.sender;
-    let receiver = opened.receiver;
-    Turn {
-        book: Book {
-            lines: n,
-            stage: Stage::Going,
-            sender,
-            receiver,
-        },
-        end: at,
+    };
+    Book {
+        lines,
+        stage: Stage::Going,
+        sender: ccmp::fresh_sender(k.key, k.key_id, k.own).sender,
+        receiver: ccmp::fresh_receiver(k.key, k.key_id, k.peer, SMALL_WINDOW).receiver,
     }
 }

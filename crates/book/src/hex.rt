@@ -2,17 +2,13 @@
 ghost use Rattle.std.specs.Prelude.{◌≡◌, ◌+◌, ◌*◌, ◌<◌, ◌≤◌, true, not, length};
 ghost use Rattle.octets.specs.Options.{contents, is_none};
 ghost use Rattle.book.specs.Hex.{letter, digit, hex_of, octets_of};
-ghost use Rattle.book.specs.Put.{put};
-ghost use Rattle.book.specs.Handed.{read_in, count_in, block, pairs};
+ghost use Rattle.book.specs.Put.{HasRoom, Writes};
+ghost use Rattle.book.specs.Handed.{read_in, count_in, array_in, block, pairs};
 
-// How many octets digits write, or that they write none.
-#[derive(Clone, Copy)]
-pub(crate) enum Read {
-    Octets(usize),
-    Malformed,
-}
+use crate::put::Page;
 
-// The number of a digit, and 16 for any other octet.
+// The number of a digit, and 16 for any other octet, as `digit` of specs/Hex.antt has it. By tests: as a match over ranges it made
+// books of long lines take 1.15 of the time, since the loops below are to have no branch on what they read.
 pub(crate) fn digit_of(x: u8) -> u8
     ensures { result ≡ digit x }
 {
@@ -27,31 +23,36 @@ pub(crate) fn digit_of(x: u8) -> u8
 
 // Reads digits that are to fill all of out. Whether all are digits is gathered over the loop, which then has no branch on what
 // it reads.
-pub(crate) fn read_all(digits: &[u8], out: &mut [u8]) -> bool
+fn read_all(digits: &[u8], out: &mut [u8]) -> bool
     requires { length digits.now ≡ 2 * length out.old }
     ensures value { result ≡ not (is_none (octets_of digits.now)) }
     ensures out_after { result ≡ true → out.new ≡ contents (octets_of digits.now) }
 {
-    let mut i = 0;
     let mut good = true;
-    while i < out.len() {
+    for (i, x) in out.iter_mut().enumerate() {
         let high = digit_of(digits[2 * i]);
         let low = digit_of(digits[2 * i + 1]);
         good = good & (high < 16) & (low < 16);
-        out[i] = 16 * (high % 16) + low % 16;
-        i += 1;
+        *x = 16 * (high % 16) + low % 16;
     }
     good
 }
 
+// The octets of digits that are to write N of them.
+pub(crate) fn read_array<const N: usize>(digits: &[u8]) -> Option<[u8; N]>
+    requires { length digits.now ≡ 2 * N }
+    ensures { array_in result ≡ octets_of digits.now }
+{
+    let mut octets = [0u8; N];
+    if read_all(digits, &mut octets) {
+        Some(octets)
+    } else {
+        None
+    }
+}
+
 // The octets that are read at once.
 const BLOCK: usize = 32;
-
-fn wide(x: u8) -> u16
-    ensures { (result ≡ x) × (result < 256) }
-{
-    x as u16
-}
 
 // The digits of a block, each two as one number.
 fn pairs_of(digits: &[u8]) -> [u16; BLOCK]
@@ -59,10 +60,8 @@ fn pairs_of(digits: &[u8]) -> [u16; BLOCK]
     ensures { result ≡ pairs digits.now }
 {
     let mut pairs = [0u16; BLOCK];
-    let mut i = 0;
-    while i < BLOCK {
-        pairs[i] = wide(digits[2 * i]) + 256 * wide(digits[2 * i + 1]);
-        i += 1;
+    for (i, pair) in pairs.iter_mut().enumerate() {
+        *pair = u16::from_le_bytes([digits[2 * i], digits[2 * i + 1]]);
     }
     pairs
 }
@@ -73,46 +72,37 @@ fn read_block(digits: &[u8], out: &mut [u8]) -> bool
     ensures value { result ≡ not (is_none (octets_of digits.now)) }
     ensures out_after { result ≡ true → out.new ≡ contents (octets_of digits.now) }
 {
-    let pairs = pairs_of(digits);
-    let mut i = 0;
     let mut good = true;
-    while i < BLOCK {
-        let high = digit_of((pairs[i] % 256) as u8);
-        let low = digit_of((pairs[i] / 256) as u8);
+    for (i, pair) in pairs_of(digits).iter().enumerate() {
+        let [first, second] = pair.to_le_bytes();
+        let high = digit_of(first);
+        let low = digit_of(second);
         good = good & (high < 16) & (low < 16);
         out[i] = 16 * (high % 16) + low % 16;
-        i += 1;
     }
     good
 }
 
-// Reads the octets that the digits write into the front of out, in blocks as far as they go.
-pub(crate) fn read_hex(digits: &[u8], out: &mut [u8]) -> Read
+// Reads the octets that the digits write into the front of out, and says how many: in blocks as far as they go.
+pub(crate) fn read_hex(digits: &[u8], out: &mut [u8]) -> Option<usize>
     requires { length digits.now ≤ 2 * length out.old }
     ensures out_after { read_in result out.new ≡ octets_of digits.now }
     ensures result_in_bounds { count_in result ≤ length out.new }
 {
     if digits.len() % 2 == 1 {
-        return Read::Malformed;
+        return None;
     }
     let n = digits.len() / 2;
-    let mut i = 0;
     let mut good = true;
-    while BLOCK <= n - i {
-        let from = 2 * i;
-        let end = i + BLOCK;
-        let to = 2 * end;
-        let read = read_block(&digits[from..to], &mut out[i..end]);
+    for j in 0..n / BLOCK {
+        let at = BLOCK * j;
+        let end = at + BLOCK;
+        let read = read_block(&digits[2 * at..2 * end], &mut out[at..end]);
         good = good & read;
-        i = end;
     }
-    let from = 2 * i;
-    let read = read_all(&digits[from..], &mut out[i..n]);
-    if good & read {
-        Read::Octets(n)
-    } else {
-        Read::Malformed
-    }
+    let at = n - n % BLOCK;
+    let read = read_all(&digits[2 * at..], &mut out[at..n]);
+    if good & read { Some(n) } else { None }
 }
 
 // The digit of a number below 16.
@@ -123,20 +113,27 @@ fn letter_of(n: u8) -> u8
     if n < 10 { b'0' + n } else { b'a' + (n - 10) }
 }
 
-// Writes the octets' digits into out from place at on, and returns the place after them.
-pub(crate) fn put_hex(octets: &[u8], out: &mut [u8], at: usize) -> usize
-    requires { at + 2 * length octets.now ≤ length out.old }
-    ensures value { result ≡ at + 2 * length octets.now }
-    ensures out_after { out.new ≡ put at (hex_of octets.now) out.old }
+// The octets' digits into all of out. The library writes digits by `write!` alone, an octet at a time, and the crate hex reads `A` to
+// `F` too.
+fn write_hex(octets: &[u8], out: &mut [u8])
+    requires { length out.old ≡ 2 * length octets.now }
+    ensures { out.new ≡ hex_of octets.now }
 {
-    let mut i = 0;
-    let mut end = at;
-    while i < octets.len() {
-        let x = octets[i];
-        out[end] = letter_of(x / 16);
-        out[end + 1] = letter_of(x % 16);
-        end += 2;
-        i += 1;
+    for (i, x) in octets.iter().enumerate() {
+        out[2 * i] = letter_of(*x / 16);
+        out[2 * i + 1] = letter_of(*x % 16);
     }
-    end
+}
+
+impl Page<'_> {
+    // Writes the octets' digits behind what is written.
+    pub(crate) fn hex(&mut self, octets: &[u8])
+        requires { HasRoom self.old (2 * length octets.now) }
+        ensures { Writes self.old (hex_of octets.now) self.new }
+    {
+        let at = self.end;
+        let end = at + 2 * octets.len();
+        write_hex(octets, &mut self.room[at..end]);
+        self.end = end;
+    }
 }

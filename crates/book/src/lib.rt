@@ -16,7 +16,7 @@ pub use answer::MOST_ANSWER;
 pub use pieces::{Fed, feed, finish, new_reader};
 
 // Before line 1, after a good one, and after a bad one, which ends the run.
-#[derive(Clone, Copy)]
+#[derive(Clone, Copy, PartialEq, Eq)]
 pub enum Stage {
     First,
     Going,
@@ -33,7 +33,8 @@ pub struct Book {
     pub receiver: Receiver,
 }
 
-// A book and the front of the line that has not ended yet.
+// A book and the front of the line that has not ended yet, beside its length: `feed` is promised of every reader, also of one whose
+// length is beyond its line.
 #[derive(Clone, Copy)]
 pub struct Reader {
     pub book: Book,

@@ -1,10 +1,11 @@
 // The forms of a line.
-ghost use Rattle.std.specs.Prelude.{◌≡◌, ◌≤◌, true, false, length};
+ghost use Rattle.std.specs.Prelude.{◌≡◌, ◌≤◌, true, length, is_some, IfSome};
 ghost use Rattle.book.specs.Limits.{most_frame};
 ghost use Rattle.book.specs.Line.{fields, is_key_line, asked};
 ghost use Rattle.book.specs.Handed.{request_in, frame_in, KeyTabs, Given};
 
-use crate::hex::{Read, digit_of, read_all, read_hex};
+use crate::answer::MOST_FRAME;
+use crate::hex::{digit_of, read_array, read_hex};
 use ccmp::MOST_KEY_ID;
 use rules::{ADDRESS_OCTETS, KEY_OCTETS};
 
@@ -35,50 +36,38 @@ const PEER_END: usize = PEER_AT + 2 * ADDRESS_OCTETS;
 // Where the digits of a later line begin, after `seal` or `open` and a tab.
 const DIGITS_AT: usize = 5;
 
-// What a later line asks, the frame being so many octets.
+// What a later line asks, its frame being so many octets.
 #[derive(Clone, Copy)]
 pub(crate) enum Request {
-    Malformed,
     Seal(usize),
     Open(usize),
 }
 
-// What a good line 1 gives; zeros where it is not good.
+// What a good line 1 gives.
 #[derive(Clone, Copy)]
 pub(crate) struct Keys {
-    pub(crate) good: bool,
     pub(crate) key: [u8; KEY_OCTETS],
     pub(crate) key_id: u8,
     pub(crate) own: [u8; ADDRESS_OCTETS],
     pub(crate) peer: [u8; ADDRESS_OCTETS],
 }
 
-// What a line after the first asks. Its frame goes into the front of the room.
-pub(crate) fn request_of(line: &[u8], frame: &mut [u8]) -> Request
-    requires { length frame.old ≡ most_frame }
+// What a line after the first asks, where it asks something. Its frame goes into the front of the room.
+pub(crate) fn request_of(line: &[u8], frame: &mut [u8; MOST_FRAME]) -> Option<Request>
     ensures frame_after { request_in result frame.new ≡ asked (fields line.now) }
     ensures result_bound { frame_in result ≤ most_frame }
 {
-    let n = line.len();
-    if MOST_LINE < n {
-        return Request::Malformed;
+    if MOST_LINE < line.len() {
+        return None;
     }
-    if n < DIGITS_AT {
-        return Request::Malformed;
+    let (word, digits) = line.split_at_checked(DIGITS_AT)?;
+    if octets::equal(word, b"seal\t") {
+        return Some(Request::Seal(read_hex(digits, frame)?));
     }
-    if octets::equal(&line[..DIGITS_AT], b"seal\t") {
-        return match read_hex(&line[DIGITS_AT..], frame) {
-            Read::Malformed => Request::Malformed,
-            Read::Octets(k) => Request::Seal(k),
-        };
+    if octets::equal(word, b"open\t") {
+        return Some(Request::Open(read_hex(digits, frame)?));
     }
-    if octets::equal(&line[..DIGITS_AT], b"open\t") {
-        return match read_hex(&line[DIGITS_AT..], frame) {
-            Read::Malformed => Request::Malformed,
-            Read::Octets(k) => Request::Open(k),
-        };
-    }
-    Request::Malformed
+    None
 }
 
 // Whether the tabs stand as in a good line 1.
@@ -86,65 +75,32 @@ fn is_parted(line: &[u8]) -> bool
     ensures key_tabs { result ≡ true → KeyTabs line.now }
     ensures value { is_key_line (fields line.now) ≡ true → result ≡ true }
 {
-    if line.len() != PEER_END {
-        return false;
-    }
-    if octets::find(line, 0, PEER_END, TAB) != WORD_END {
-        return false;
-    }
-    if octets::find(line, KEY_AT, PEER_END, TAB) != KEY_END {
-        return false;
-    }
-    if octets::find(line, KEY_ID_AT, PEER_END, TAB) != KEY_ID_END {
-        return false;
-    }
-    octets::find(line, OWN_AT, PEER_END, TAB) == OWN_END
+    line.len() == PEER_END
+        && octets::find(line, TAB) == Some(WORD_END)
+        && octets::find(&line[KEY_AT..], TAB) == Some(KEY_END - KEY_AT)
+        && octets::find(&line[KEY_ID_AT..], TAB) == Some(KEY_ID_END - KEY_ID_AT)
+        && octets::find(&line[OWN_AT..], TAB) == Some(OWN_END - OWN_AT)
 }
 
-fn no_keys() -> Keys
-    ensures { result.good ≡ false }
+// What line 1 gives, where it is good.
+pub(crate) fn keys_of(line: &[u8]) -> Option<Keys>
+    ensures good_value { is_some result ≡ is_key_line (fields line.now) }
+    ensures given { IfSome result (Given (fields line.now)) }
 {
-    Keys {
-        good: false,
-        key: [0; KEY_OCTETS],
-        key_id: 0,
-        own: [0; ADDRESS_OCTETS],
-        peer: [0; ADDRESS_OCTETS],
+    if !is_parted(line) || !octets::equal(&line[..WORD_END], b"key") {
+        return None;
     }
-}
-
-// What line 1 gives.
-pub(crate) fn keys_of(line: &[u8]) -> Keys
-    ensures good_value { result.good ≡ is_key_line (fields line.now) }
-    ensures given { result.good ≡ true → Given (fields line.now) result }
-{
-    if !is_parted(line) {
-        return no_keys();
-    }
-    if !octets::equal(&line[0..WORD_END], b"key") {
-        return no_keys();
-    }
-    let mut key = [0u8; KEY_OCTETS];
-    if !read_all(&line[KEY_AT..KEY_END], &mut key) {
-        return no_keys();
-    }
+    let key = read_array(&line[KEY_AT..KEY_END])?;
     let key_id = digit_of(line[KEY_ID_AT]);
     if MOST_KEY_ID < key_id {
-        return no_keys();
+        return None;
     }
-    let mut own = [0u8; ADDRESS_OCTETS];
-    if !read_all(&line[OWN_AT..OWN_END], &mut own) {
-        return no_keys();
-    }
-    let mut peer = [0u8; ADDRESS_OCTETS];
-    if !read_all(&line[PEER_AT..PEER_END], &mut peer) {
-        return no_keys();
-    }
-    Keys {
-        good: true,
+    let own = read_array(&line[OWN_AT..OWN_END])?;
+    let peer = read_array(&line[PEER_AT..PEER_END])?;
+    Some(Keys {
         key,
         key_id,
         own,
         peer,
-    }
+    })
 }

@@ -1,5 +1,5 @@
 // A text in pieces.
-ghost use Rattle.std.specs.Prelude.{◌≡◌, ◌-◌, ◌≤◌, [], ◌++◌, length, take, drop};
+ghost use Rattle.std.specs.Prelude.{◌≡◌, ◌≤◌, [], ◌++◌, length, take};
 ghost use Rattle.book.specs.Limits.{most_kept};
 ghost use Rattle.book.specs.Put.{put};
 ghost use Rattle.book.specs.Text.{unended};
@@ -10,7 +10,7 @@ use crate::answer::{
     MOST_ANSWER, MOST_FRAME, MOST_RESULT, first_line, open_line, put_bad, seal_line,
 };
 use crate::line::{MOST_LINE, Request, request_of};
-use crate::put::put_text;
+use crate::put::Page;
 use crate::scan::find;
 use crate::{Book, Reader, Stage};
 use rules::{ADDRESS_OCTETS, KEY_OCTETS};
@@ -47,131 +47,83 @@ pub fn new_reader() -> Reader
     }
 }
 
-// Keeps piece[a..e] behind what is kept of the line, as far as there is room, and gives the length of what is kept.
-fn keep(line: &mut [u8], kept: usize, piece: &[u8], a: usize, e: usize) -> usize
-    requires { (length line.old ≡ most_kept) × (kept ≤ most_kept) × (a ≤ e) × (e ≤ length piece.now) }
+// Keeps text behind what is kept of the line, as far as there is room, and gives the length of what is kept.
+fn keep(line: &mut [u8; MOST_KEPT], kept: usize, text: &[u8]) -> usize
+    requires { kept ≤ most_kept }
     ensures upper_bound { result ≤ most_kept }
-    ensures line_after { take result line.new ≡ cut (take kept line.old ++ take (e - a) (drop a piece.now)) }
+    ensures line_after { take result line.new ≡ cut (take kept line.old ++ text.now) }
 {
-    if MOST_KEPT - kept < e - a {
-        let end = a + (MOST_KEPT - kept);
-        return put_text(&piece[a..end], line, kept);
-    }
-    put_text(&piece[a..e], line, kept)
-}
-
-// What a piece gave: the book after its lines, how much is kept of the one that has not ended, and as in Fed.
-#[derive(Clone, Copy)]
-struct Lines {
-    book: Book,
-    kept: usize,
-    taken: usize,
-    written: usize,
-}
-
-// Answers the lines that end in a piece, while there is room for an answer.
-fn feed_lines(b: Book, kept: usize, line: &mut [u8], piece: &[u8], out: &mut [u8]) -> Lines
-    requires { (length line.old ≡ most_kept) × (kept ≤ most_kept) }
-    ensures gave { Gave b (take kept line.old) (take result.taken piece.now) out.old result.book (take result.kept line.new) out.new result.written }
-    ensures enough { Enough (length piece.now) result.taken (length out.old) result.written }
-{
-    let mut frame = [0u8; MOST_FRAME];
-    let mut result = [0u8; MOST_RESULT];
-    let mut lines = b.lines;
-    let mut stage = b.stage;
-    let mut sender = b.sender;
-    let mut receiver = b.receiver;
-    let mut here = kept;
-    let mut at = 0;
-    let mut written = 0;
-    while at < piece.len() && MOST_ANSWER <= out.len() - written {
-        let end = find(piece, at, LINE_FEED);
-        let text = keep(line, here, piece, at, end);
-        if end == piece.len() {
-            here = text;
-            at = end;
-        } else {
-            here = 0;
-            at = end + 1;
-            match stage {
-                Stage::First => {
-                    let book = Book {
-                        lines,
-                        stage,
-                        sender,
-                        receiver,
-                    };
-                    let turn = first_line(book, &line[..text], out, written);
-                    let next = turn.book;
-                    lines = next.lines;
-                    stage = next.stage;
-                    sender = next.sender;
-                    receiver = next.receiver;
-                    written = turn.end;
-                }
-                Stage::Going => {
-                    lines = std::num::wrapping_add_u64(lines, 1);
-                    match request_of(&line[..text], &mut frame) {
-                        Request::Malformed => {
-                            written = put_bad(lines, out, written);
-                        }
-                        Request::Seal(k) => {
-                            let f = &frame[..k];
-                            let turn = seal_line(lines, sender, f, &mut result, out, written);
-                            sender = turn.sender;
-                            written = turn.end;
-                        }
-                        Request::Open(k) => {
-                            let f = &frame[..k];
-                            let turn = open_line(lines, receiver, f, &mut result, out, written);
-                            receiver = turn.receiver;
-                            written = turn.end;
-                        }
-                    }
-                }
-                Stage::Ended => {}
-            }
-        }
-    }
-    Lines {
-        book: Book {
-            lines,
-            stage,
-            sender,
-            receiver,
-        },
-        kept: here,
-        taken: at,
-        written,
-    }
-}
-
-// At most what is kept of a line.
-fn kept_of(n: usize) -> usize
-    ensures { (result ≤ most_kept) × ((n ≤ most_kept → result ≡ n) × (most_kept ≤ n → result ≡ most_kept)) }
-{
-    if n < MOST_KEPT { n } else { MOST_KEPT }
+    let n = text.len().min(MOST_KEPT - kept);
+    let mut page = Page {
+        room: line,
+        end: kept,
+    };
+    page.text(&text[..n]);
+    page.end
 }
 
 // Takes a piece of text, or as much of it as there is room to answer, and writes the answers to the lines that end in it
-// into the front of out. Room for MOST_ANSWER octets is enough to go on.
+// into the front of out. Room for MOST_ANSWER octets is enough to go on. A turn of the loop takes a line, so that it counts no index.
 pub fn feed(r: Reader, piece: &[u8], out: &mut [u8]) -> Fed
     ensures gave { Gave r.book (held r) (take result.taken piece.now) out.old result.reader.book (held result.reader) out.new result.written }
     ensures enough { Enough (length piece.now) result.taken (length out.old) result.written }
 {
+    let mut frame = [0u8; MOST_FRAME];
+    let mut res = [0u8; MOST_RESULT];
+    let mut book = r.book;
     let mut line = r.line;
-    let kept = kept_of(r.length);
-    let b = r.book;
-    let lines = feed_lines(b, kept, &mut line, piece, out);
-    let book = lines.book;
+    let mut kept = r.length.min(MOST_KEPT);
+    let mut taken = 0;
+    let mut page = Page { room: out, end: 0 };
+    while taken < piece.len() && MOST_ANSWER <= page.room.len() - page.end {
+        let rest = &piece[taken..];
+        let Some(n) = find(rest, LINE_FEED) else {
+            kept = keep(&mut line, kept, rest);
+            taken = piece.len();
+            break;
+        };
+        let end = keep(&mut line, kept, &rest[..n]);
+        kept = 0;
+        taken += n + 1;
+        match book.stage {
+            Stage::First => {
+                book = first_line(book, &line[..end], &mut page);
+            }
+            Stage::Going => {
+                book.lines = book.lines.wrapping_add(1);
+                match request_of(&line[..end], &mut frame) {
+                    None => put_bad(book.lines, &mut page),
+                    Some(Request::Seal(k)) => {
+                        book.sender = seal_line(
+                            book.lines,
+                            book.sender,
+                            &frame[..k],
+                            &mut res,
+                            &mut page,
+                        );
+                    }
+                    Some(Request::Open(k)) => {
+                        book.receiver = open_line(
+                            book.lines,
+                            book.receiver,
+                            &frame[..k],
+                            &mut res,
+                            &mut page,
+                        );
+                    }
+                }
+            }
+            Stage::Ended => {}
+        }
+    }
     Fed {
         reader: Reader {
             book,
             line,
-            length: lines.kept,
+            length: kept,
         },
-        taken: lines.taken,
-        written: lines.written,
+        taken,
+        written: page.end,
     }
 }
 
@@ -181,12 +133,8 @@ pub fn finish(r: Reader, out: &mut [u8; MOST_ANSWER]) -> usize
     ensures upper_bound { result ≤ length out.new }
     ensures out_after { out.new ≡ put 0 (says r.book (unended (held r))) out.old }
 {
-    let kept = kept_of(r.length);
-    if kept == 0 {
+    if r.length == 0 {
         return 0;
     }
-    let mut line = r.line;
-    let b = r.book;
-    let lines = feed_lines(b, kept, &mut line, b"\n", out);
-    lines.written
+    feed(r, b"\n", out).written
 }

@@ -1,13 +1,23 @@
 // Text into a room.
-ghost use Rattle.std.specs.Prelude.{◌≡◌, ◌+◌, ◌≤◌, length};
-ghost use Rattle.book.specs.Put.{put};
+ghost use Rattle.std.specs.Prelude.{◌≡◌, length};
+ghost use Rattle.book.specs.Put.{HasRoom, Writes};
 
-// Writes the text into out at a place, and gives the place after it.
-pub(crate) fn put_text(text: &[u8], out: &mut [u8], at: usize) -> usize
-    requires { at + length text.now ≤ length out.old }
-    ensures value { result ≡ at + length text.now }
-    ensures out_after { out.new ≡ put at text.now out.old }
-{
-    let n = octets::copy(text, &mut out[at..]);
-    at + n
+// A room, and the place in it up to which it is written. What is left of it is no fact of the type, since a page fills up: each
+// function that writes asks for the room that it needs.
+#[derive(Drop)]
+pub(crate) struct Page<'a> {
+    pub(crate) room: &'a mut [u8],
+    pub(crate) end: usize,
+}
+
+impl Page<'_> {
+    // Writes the text behind what is written.
+    pub(crate) fn text(&mut self, text: &[u8])
+        requires { HasRoom self.old (length text.now) }
+        ensures { Writes self.old text.now self.new }
+    {
+        let at = self.end;
+        let n = octets::copy(text, &mut self.room[at..]);
+        self.end = at + n;
+    }
 }

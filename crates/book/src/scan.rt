@@ -1,5 +1,5 @@
 // The search for an octet.
-ghost use Rattle.std.specs.Prelude.{◌≡◌, ◌+◌, ◌≤◌, length, drop, nat_lt};
+ghost use Rattle.std.specs.Prelude.{◌≡◌, ◌==◌, length, nat_lt, position};
 ghost use Rattle.octets.specs.Search.{index_of};
 
 // The first octets are tested one by one, so that a near one is found soon, and the others so many at once.
@@ -7,40 +7,31 @@ const NEAR: usize = 16;
 
 const BLOCK: usize = 64;
 
-// Whether x is among the octets. It is gathered over the loop, which then has no branch on what it reads.
+// Whether x is among the octets. It is gathered over the loop, which then has no branch on what it reads, as `any` would.
 fn has(s: &[u8], x: u8) -> bool
     ensures { result ≡ nat_lt (index_of x s.now) (length s.now) }
 {
     let mut seen = false;
-    let mut i = 0;
-    while i < s.len() {
-        seen = seen | (s[i] == x);
-        i += 1;
+    for y in s {
+        seen = seen | (*y == x);
     }
     seen
 }
 
-// The place of the first x from a place on, or the end where there is none.
-pub(crate) fn find(s: &[u8], from: usize, x: u8) -> usize
-    requires { from ≤ length s.now }
-    ensures value { result ≡ from + index_of x (drop from s.now) }
-    ensures upper_bound { result ≤ length s.now }
+// The place of the first x, where there is one. A `while`, since it goes from block to block only until one has it.
+pub(crate) fn find(s: &[u8], x: u8) -> Option<usize>
+    ensures { result ≡ position (λ y. y == x) s.now }
 {
-    if s.len() - from < NEAR {
-        return octets::find(s, from, s.len(), x);
+    if s.len() < NEAR {
+        return octets::find(s, x);
     }
-    let near = from + NEAR;
-    let first = octets::find(s, from, near, x);
-    if first < near {
-        return first;
+    if let Some(i) = octets::find(&s[..NEAR], x) {
+        return Some(i);
     }
-    let mut at = near;
-    while BLOCK <= s.len() - at {
-        let end = at + BLOCK;
-        if has(&s[at..end], x) {
-            break;
-        }
-        at = end;
+    let mut at = NEAR;
+    while BLOCK <= s.len() - at && !has(&s[at..at + BLOCK], x) {
+        at += BLOCK;
     }
-    octets::find(s, at, s.len(), x)
+    let i = octets::find(&s[at..], x)?;
+    Some(at + i)
 }

@@ -1,25 +1,22 @@
-use Rattle.std.proofs.Common.{◌≡◌, ℕ, ◌-◌, List, length, take, drop, sym, ap, ◌∙◌, arith, length-take, length-drop, take_all, take-add, rules}
+use Rattle.std.proofs.Common.{◌≡◌, ◌-◌, length, take, drop, sym, ap, ◌∙◌, arith, length-take, length-drop, take-add, rules}
 use Rattle.book.specs.Limits.{most_kept}
 use Rattle.book.specs.Pieces.{after, cut, held, ended, left}
+use Rattle.book.proofs.Parts.{rest_of}
 use Rattle.book.proofs.Whole.{before_any, another}
 use Rattle.framebook.proofs.feed_all.Goals as goal
-
--- the part of the piece that is left
-rest_of : (s : List ℕ) (i : ℕ) → take (length s - i) (drop i s) ≡ drop i s
-rest_of s i = take_all (length s - i) (drop i s) (omega (arith, length-drop i s))
 
 pub loop-at-init : goal.loop-at-init
 loop-at-init c =
     let a = c.args in
-    let line : length a.r.line ≡ most_kept = search rules in
-    let before = before_any a.r.book (held a.r) (omega (arith, length-take a.r.length a.r.line)) in
-    record { book = before.0; line = before.1; within = search rules; room = c.requires }
+    let line : length a.reader.now.line ≡ most_kept = c.requires.0 in
+    let before = before_any a.reader.now.book (held a.reader.now) (omega (arith, length-take a.reader.now.length a.reader.now.line)) in
+    record { book = before.0; line = before.1; within = search rules; room = c.requires.1; whole = c.requires.0 }
 
 pub loop-at-preserved : goal.loop-at-preserved
 loop-at-preserved c =
     let l = c.loop-at in
     let p = c.args.piece.now in
-    let r = c.args.r in
+    let r = c.args.reader.now in
     let f = c.feed-f in
     let n = f.result.taken in
     let t = take n (drop l.at p) in
@@ -31,4 +28,5 @@ loop-at-preserved c =
       line = f.ensures.gave.line_is ∙ ap (λ x. cut (left (held l.reader) x)) part ∙ more.1 ∙ ap (λ x. cut (left (held r) x)) next;
       within = omega (arith, ap length (rest_of p l.at), length-drop l.at p, f.ensures.enough.within);
       room = omega (arith, l.invariant.room, f.auto.out);
+      whole = search rules;
     }

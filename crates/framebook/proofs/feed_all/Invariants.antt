@@ -1,5 +1,5 @@
 use Rattle.std.proofs.Common.{◌≡◌, ◌-◌, ◌≤◌, length, take}
-use Rattle.book.specs.Limits.{most_answer}
+use Rattle.book.specs.Limits.{most_answer, most_kept}
 use Rattle.book.specs.Pieces.{after, cut, held, ended, left}
 use Rattle.framebook.proofs.feed_all.Given as goal
 
@@ -11,6 +11,7 @@ invariant-loop-at l =
       line : held l.reader ≡ cut (left (held l.initial.reader) (take l.at l.piece));
       within : l.at ≤ length l.piece;
       room : most_answer ≤ length l.out;
+      whole : length l.reader.line ≡ most_kept;
     }
 
 abbrev pub decreases-loop-at : goal.decreases-loop-at

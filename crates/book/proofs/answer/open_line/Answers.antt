@@ -1,29 +1,34 @@
 use Rattle.std.proofs.Common.{◌+◌, ◌≤◌, length, ap, ◌∙◌, arith, rules}
+use Rattle.std.specs.Prelude.{◌≡◌, Ok, Err, MatchResult}
 use Rattle.rules.specs.Mode.{added}
 use Rattle.rules.specs.Records.{receiver_next}
+use Rattle.rules.specs.Refusals.{answer_of}
+use Rattle.book.specs.Line.{open_word}
 use Rattle.book.specs.Limits.{most_result}
-use Rattle.book.specs.Handed.{octets_written}
-use Rattle.book.proofs.Answered.{opened_fits, opens_alike, open_line_lem}
-use Rattle.book.proofs.Puts.{as_text}
+use Rattle.book.specs.Handed.{tabbed, octets_written}
+use Rattle.book.proofs.Answered.{handed_on, opened_fits, opens_alike, open_line_lem}
+use Rattle.book.proofs.Puts.{writes_as}
 use Rattle.book.proofs.answer.open_line.Goals as goal
 
-pub put_answer-end-requires : goal.put_answer-end-requires
-put_answer-end-requires c =
+pub put_answer-requires-clause-a_in_bounds : goal.put_answer-requires-clause-a_in_bounds
+put_answer-requires-clause-a_in_bounds c =
     let a = c.args in
     let s = c.open-opened in
-    let f : octets_written s.result.answer ≤ most_result = omega (arith, opened_fits a.frame.now a.res.now a.r s.result.answer s.ensures.answer_value, c.requires) in
+    let m : MatchResult s.result.answer (λ d. c.map.result ≡ Ok d.octets) (λ x. c.map.result ≡ Err x) = search rules in
+    let h = (handed_on s.result.answer c.map.result m).0 in
+    let f : octets_written (answer_of s.result.answer) ≤ most_result = omega (arith, opened_fits a.frame.now a.res.now a.r (answer_of s.result.answer) s.ensures.answer_value, c.requires) in
     search rules
 
 pub returns : goal.returns
 returns c =
     let a = c.args in
     let s = c.open-opened in
-    let p = c.put_answer-end.ensures in
     let room : length a.frame.now + added ≤ length a.res.now = omega (arith, c.requires) in
-    let text = open_line_lem a.frame.now a.res.now room a.n a.r s.result.answer s.new.out s.ensures.answer_value s.ensures.out_after in
-    let t = as_text a.at a.out.now _ _ _ _ text (p.value, p.out_after) in
+    let m : MatchResult s.result.answer (λ d. c.map.result ≡ Ok d.octets) (λ x. c.map.result ≡ Err x) = search rules in
+    let text =
+    (handed_on s.result.answer c.map.result m).1 a.n (tabbed open_word) s.new.out
+    ∙ open_line_lem a.frame.now a.res.now room a.n a.r (answer_of s.result.answer) s.new.out s.ensures.answer_value s.ensures.out_after in
     record {
       receiver_value = s.ensures.receiver_value ∙ ap (receiver_next a.r) (opens_alike a.frame.now a.res.now room a.r);
-      end_value = t.0;
-      out_after = t.1;
+      page_after = writes_as _ _ _ _ text c.put_answer.ensures;
     }

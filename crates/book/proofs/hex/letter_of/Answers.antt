@@ -1,9 +1,0 @@
-use Rattle.std.proofs.Common.{le-ltb, lt-ltb}
-use Rattle.book.proofs.hex.letter_of.Goals as goal
-
--- The branch is the definition's test.
-pub returns-then-n-lt10 : goal.returns-then-n-lt10
-returns-then-n-lt10 c = rw (lt-ltb _ _ c.if-n-lt10.true)
-
-pub returns-else-n-lt10 : goal.returns-else-n-lt10
-returns-else-n-lt10 c = rw (le-ltb _ _ c.if-n-lt10.false)
