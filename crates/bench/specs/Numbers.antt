@@ -1,14 +1,11 @@
 -- Outcomes as numbers and records from their fields, for C.
-use Rattle.std.specs.Prelude.{true, List, [], ◌∷◌, ℕ, get_or}
-use Rattle.ccm.specs.declared.Outcome.{Outcome}
-use Rattle.ccm.specs.declared.Outcome.TheVariants.{Done, Refused}
-use Rattle.rules.specs.Answers.{told}
+use Rattle.std.specs.Prelude.{Option, Some, None, true, List, [], ◌∷◌, ℕ, get_or}
+use Rattle.rules.specs.Answers.{Answer, told}
 use Rattle.rules.specs.Limits.{small_window}
 use Rattle.rules.specs.Records.{new_sender, new_receiver, with_last}
 use Rattle.rules.specs.Table.{new_entry, fresh_table, put}
 use Rattle.rules.specs.Adding.{add_answer, add_next}
 use Rattle.rules.specs.Serving.{table_seal_answer, table_seal_next, table_seal_output, table_open_answer, table_open_next, table_open_output}
-use Rattle.rules.specs.declared.Answer.{Answer}
 use Rattle.rules.specs.declared.Counts.{Counts}
 use Rattle.rules.specs.declared.Joiner.{Joiner}
 use Rattle.rules.specs.declared.Pairing.{Pairing}
@@ -17,9 +14,9 @@ use Rattle.rules.specs.declared.Sender.{Sender}
 use Rattle.rules.specs.declared.Table.{Table}
 
 -- the octets written, or 2^64 - 1 for a refusal
-abbrev pub number : Outcome → ℕ
-number (Done n) = n
-number Refused = 0xffff_ffff_ffff_ffff
+abbrev pub number : Option ℕ → ℕ
+number (Some n) = n
+number None = 0xffff_ffff_ffff_ffff
 
 abbrev pub sender : List ℕ → ℕ → List ℕ → ℕ → Sender
 sender key keyId address last = with_last (new_sender key keyId address) last

@@ -9,8 +9,6 @@ ghost use Rattle.ccm.specs.Ccm.{sealed, opened};
 ghost use Rattle.ccm.specs.Room.{fitting, outcome, written};
 ghost use Rattle.bench.specs.Numbers.{number};
 
-use ccm::Outcome;
-
 pub mod buffers; // buffers.rt: sealing and opening on a record in a buffer
 pub mod frames; // frames.rt: fresh records, sealing and opening
 pub mod pictures; // pictures.rt: splitting and joining
@@ -35,12 +33,13 @@ pub fn bench_aes_encrypt(t: &[u64; 256], w: &[u8; 176], block: &mut [u8; 16])
     *block = aes::store(aes::encrypt(t, w, aes::load(b)));
 }
 
-fn numbered(o: Outcome) -> u64
+// What C is told: a count of octets, and in place of None a number that no count is.
+fn numbered(o: Option<usize>) -> u64
     ensures { result ≡ number o }
 {
     match o {
-        Outcome::Done(n) => n as u64,
-        Outcome::Refused => 0xffff_ffff_ffff_ffff,
+        Some(n) => n as u64,
+        None => 0xffff_ffff_ffff_ffff,
     }
 }
 

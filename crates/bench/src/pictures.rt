@@ -4,7 +4,7 @@ ghost use Rattle.rules.specs.Splitting.{split_answer, split_next, split_output};
 ghost use Rattle.rules.specs.Joining.{join_answer, join_next, join_output};
 ghost use Rattle.bench.specs.Numbers.{sender, joiner, parts};
 
-use crate::frames::{parts_of, sender_of};
+use crate::frames::{parts_of, put_sender, sender_of};
 use rules::{Fragment, Joiner, MOST_MESSAGE};
 
 pub fn bench_split(
@@ -26,15 +26,8 @@ pub fn bench_split(
 {
     let before = sender_of(*key, *key_id, *address, *last);
     let sealed = fragments::split(before, size, frame, out);
-    let a = sealed.answer;
-    *answer = parts_of(a);
-    let s = sealed.sender;
-    let k = s.key;
-    *key = k;
-    *key_id = s.key_id;
-    let own = s.address;
-    *address = own;
-    *last = s.last;
+    *answer = parts_of(sealed.answer);
+    put_sender(&sealed.sender, key, key_id, address, last);
 }
 
 fn joiner_of(
@@ -82,17 +75,13 @@ pub fn bench_join(
         *held, *length, *address, *priority, *sequence, *fragment, *last,
     );
     let joined = fragments::join(before, frame, number, out);
-    let a = joined.answer;
-    *answer = parts_of(a);
-    let j = joined.joiner;
-    let octets = j.held;
-    *held = octets;
+    *answer = parts_of(joined.answer);
+    let j = &joined.joiner;
+    *held = j.held;
     *length = j.length;
-    let x = j.last;
-    let from = x.address;
-    *address = from;
-    *priority = x.priority;
-    *sequence = x.sequence;
-    *fragment = x.fragment;
-    *last = x.number;
+    *address = j.last.address;
+    *priority = j.last.priority;
+    *sequence = j.last.sequence;
+    *fragment = j.last.fragment;
+    *last = j.last.number;
 }

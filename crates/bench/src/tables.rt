@@ -10,7 +10,6 @@ use rules::{Entry, Pairing, Table, Triple};
 fn one_camera(own: [u8; 6], peer: [u8; 6], key_id: u8, key: [u8; 16]) -> Table
     ensures { result ≡ one_camera own peer key_id key }
 {
-    let receiver = ccmp::new_receiver(key, key_id, peer, SMALL_WINDOW);
     let mut t = table::new_table();
     t.entries[0] = Entry {
         used: true,
@@ -18,7 +17,7 @@ fn one_camera(own: [u8; 6], peer: [u8; 6], key_id: u8, key: [u8; 16]) -> Table
         may_receive: true,
         own,
         last: 0,
-        receiver,
+        receiver: ccmp::new_receiver(key, key_id, peer, SMALL_WINDOW),
     };
     t
 }
@@ -32,23 +31,20 @@ pub fn bench_table_add(
 )
     ensures { answer.new ≡ parts (added_twice (camera own.now peer.now key_id key.now)) }
 {
-    let triple = Triple {
-        own: *own,
-        peer: *peer,
-        key_id,
-    };
     let x = Pairing {
-        triple,
+        triple: Triple {
+            own: *own,
+            peer: *peer,
+            key_id,
+        },
         key: *key,
         size: SMALL_WINDOW,
         may_send: true,
         may_receive: true,
     };
     let first = table::add(table::new_table(), x);
-    let then = first.table;
-    let added = table::add(then, x);
-    let a = added.answer;
-    *answer = parts_of(a);
+    let added = table::add(first.table, x);
+    *answer = parts_of(added.answer);
 }
 
 pub fn bench_table_seal(
@@ -67,10 +63,8 @@ pub fn bench_table_seal(
 {
     let t = one_camera(*own, *peer, key_id, *key);
     let first = table::seal(t, key_id, frame, out);
-    let then = first.table;
-    let sealed = table::seal(then, key_id, frame, out);
-    let a = sealed.answer;
-    *answer = parts_of(a);
+    let sealed = table::seal(first.table, key_id, frame, out);
+    *answer = parts_of(sealed.answer);
 }
 
 pub fn bench_table_open(
@@ -89,8 +83,6 @@ pub fn bench_table_open(
 {
     let t = one_camera(*own, *peer, key_id, *key);
     let first = table::open(t, frame, out);
-    let then = first.table;
-    let opened = table::open(then, frame, out);
-    let a = opened.answer;
-    *answer = parts_of(a);
+    let opened = table::open(first.table, frame, out);
+    *answer = parts_of(opened.answer);
 }
