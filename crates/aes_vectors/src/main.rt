@@ -3,40 +3,34 @@
 // appendices B and C.1.
 #![tactic(auto)]
 
-fn print_schedule(rt: HostRuntime, w: [u8; 176]) {
-    let octets: &[u8] = &w;
-    let mut i: usize = 0;
-    while i < 44 {
-        show::text(rt, b"A.1 w[");
-        show::number(rt, i as u64);
-        show::text(rt, b"] ");
-        show::octets(rt, &octets[4 * i..4 * i + 4]);
-        show::text(rt, b"\n");
-        i += 1;
+use show::Hex;
+use std::io;
+
+fn print_schedule(rt: HostRuntime, w: [u8; 176]) -> io::Result<()> {
+    for (i, word) in w.chunks_exact(4).enumerate() {
+        println!(rt; "A.1 w[{i}] {}", Hex(word))?;
     }
+    Ok(())
 }
 
 // The block encrypted by itself, and as the first and the second of two.
 fn print_ciphertext(
     rt: HostRuntime,
-    appendix: &[u8],
+    appendix: &str,
     t: &[u64; 256],
     key: [u8; 16],
     plaintext: [u8; 16],
-) {
+) -> io::Result<()> {
     let w = aes::expand(t, key);
     let block = aes::load(plaintext);
     let two = aes::encrypt_two(t, &w, block, block);
-    show::text(rt, appendix);
-    show::octets(rt, &aes::store(aes::encrypt(t, &w, block)));
-    show::text(rt, b" ");
-    show::octets(rt, &aes::store(two.first));
-    show::text(rt, b" ");
-    show::octets(rt, &aes::store(two.second));
-    show::text(rt, b"\n");
+    let one = aes::store(aes::encrypt(t, &w, block));
+    let first = aes::store(two.first);
+    let second = aes::store(two.second);
+    println!(rt; "{appendix} {} {} {}", Hex(&one), Hex(&first), Hex(&second))
 }
 
-fn main(rt: HostRuntime) {
+fn main(rt: HostRuntime) -> io::Result<()> {
     let mut t = [0u64; 256];
     aes::fill_products(&mut t);
 
@@ -45,12 +39,12 @@ fn main(rt: HostRuntime) {
         0x2b, 0x7e, 0x15, 0x16, 0x28, 0xae, 0xd2, 0xa6, 0xab, 0xf7, 0x15, 0x88, 0x09, 0xcf, 0x4f,
         0x3c,
     ];
-    print_schedule(rt, aes::expand(&t, key));
+    print_schedule(rt, aes::expand(&t, key))?;
     let plaintext: [u8; 16] = [
         0x32, 0x43, 0xf6, 0xa8, 0x88, 0x5a, 0x30, 0x8d, 0x31, 0x31, 0x98, 0xa2, 0xe0, 0x37, 0x07,
         0x34,
     ];
-    print_ciphertext(rt, b"B ", &t, key, plaintext);
+    print_ciphertext(rt, "B", &t, key, plaintext)?;
 
     // Appendix C.1.
     let counting: [u8; 16] = [
@@ -61,5 +55,5 @@ fn main(rt: HostRuntime) {
         0x00, 0x11, 0x22, 0x33, 0x44, 0x55, 0x66, 0x77, 0x88, 0x99, 0xaa, 0xbb, 0xcc, 0xdd, 0xee,
         0xff,
     ];
-    print_ciphertext(rt, b"C.1 ", &t, counting, doubled);
+    print_ciphertext(rt, "C.1", &t, counting, doubled)
 }

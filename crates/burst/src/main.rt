@@ -3,7 +3,8 @@
 #![tactic(auto)]
 
 use ccmp::ADDED;
-use rules::{Answer, Receiver, Sender};
+use rules::{Receiver, Sender};
+use std::io;
 
 const SEALED: usize = 33 + ADDED;
 
@@ -19,8 +20,7 @@ struct Boxes {
 }
 
 fn meets(size: u8) -> Receiver {
-    let met = ccmp::fresh_receiver(KEY, 0, CAMERA, size);
-    met.receiver
+    ccmp::fresh_receiver(KEY, 0, CAMERA, size).receiver
 }
 
 // A sealed frame, and the camera's record after it.
@@ -35,60 +35,41 @@ fn sends(sender: Sender, sequence: u8) -> Sent {
     let mut frame = *b"\x08\x01\x00\x00router\x02cam-1router\x00\x00picture 1";
     frame[22] = sequence;
     let mut air = [0u8; SEALED];
-    let sealed = ccmp::seal(sender, &frame, &mut air);
-    let next = sealed.sender;
-    Sent { air, sender: next }
+    let sender = ccmp::seal(sender, &frame, &mut air).sender;
+    Sent { air, sender }
 }
 
-// A box opens the frame and tells what it answers.
-fn opens(rt: HostRuntime, receiver: Receiver, frame: Sent) -> Receiver {
-    let air = frame.air;
+// A box opens the frame: the number that it answers, and its record afterwards.
+fn opens(receiver: Receiver, frame: Sent) -> (u8, Receiver) {
     let mut plain = [0u8; SEALED];
-    let opened = ccmp::open(receiver, &air, &mut plain);
-    let answer = opened.answer;
-    match answer {
-        Answer::Done(_, _, _) => {
-            show::text(rt, b"0");
-        }
-        Answer::Refused(number) => {
-            show::number(rt, number as u64);
-        }
-    }
-    opened.receiver
+    let opened = ccmp::open(receiver, &frame.air, &mut plain);
+    let number = opened.answer.map_or_else(|refusal| refusal.number(), |_| 0);
+    (number, opened.receiver)
 }
 
 // Both boxes hear the frame with number n.
-fn hear(rt: HostRuntime, boxes: Boxes, n: u64, frame: Sent) -> Boxes {
-    show::text(rt, b"number ");
-    show::number(rt, n);
-    show::text(rt, b": windows of 16 answer ");
-    let before = boxes.large;
-    let large = opens(rt, before, frame);
-    show::text(rt, b", windows of 1 answer ");
-    let before = boxes.small;
-    let small = opens(rt, before, frame);
-    show::text(rt, b"\n");
-    Boxes { large, small }
+fn hear(rt: HostRuntime, boxes: Boxes, n: u64, frame: Sent) -> io::Result<Boxes> {
+    let (by_large, large) = opens(boxes.large, frame);
+    let (by_small, small) = opens(boxes.small, frame);
+    println!(rt; "number {n}: windows of 16 answer {by_large}, windows of 1 answer {by_small}")?;
+    Ok(Boxes { large, small })
 }
 
-fn main(rt: HostRuntime) {
-    let made = ccmp::fresh_sender(KEY, 0, CAMERA);
-    let sender = made.sender;
+fn main(rt: HostRuntime) -> io::Result<()> {
+    let sender = ccmp::fresh_sender(KEY, 0, CAMERA).sender;
     let one = sends(sender, 0x00);
-    let sender = one.sender;
-    let two = sends(sender, 0x10);
-    let sender = two.sender;
-    let three = sends(sender, 0x20);
-    let sender = three.sender;
-    let four = sends(sender, 0x30);
+    let two = sends(one.sender, 0x10);
+    let three = sends(two.sender, 0x20);
+    let four = sends(three.sender, 0x30);
 
     let large = meets(ccmp::LARGE_WINDOW);
     let small = meets(ccmp::SMALL_WINDOW);
     let boxes = Boxes { large, small };
-    let boxes = hear(rt, boxes, 1, one);
-    let boxes = hear(rt, boxes, 4, four);
+    let boxes = hear(rt, boxes, 1, one)?;
+    let boxes = hear(rt, boxes, 4, four)?;
     // Numbers 2 and 3 come late, and 2 again.
-    let boxes = hear(rt, boxes, 2, two);
-    let boxes = hear(rt, boxes, 3, three);
-    hear(rt, boxes, 2, two);
+    let boxes = hear(rt, boxes, 2, two)?;
+    let boxes = hear(rt, boxes, 3, three)?;
+    hear(rt, boxes, 2, two)?;
+    Ok(())
 }

@@ -6,148 +6,98 @@
 
 ghost use Rattle.std.specs.Prelude.{◌≤◌, length};
 
-use ccm::Outcome;
+use show::Hex;
+use std::io;
 
-fn print_label(rt: HostRuntime, number: u64, label: &[u8]) {
-    show::number(rt, number);
-    show::text(rt, label);
-}
-
-fn print_outcome(rt: HostRuntime, o: Outcome, out: &[u8]) {
+fn print_outcome(
+    rt: HostRuntime,
+    number: u64,
+    label: &str,
+    o: Option<usize>,
+    out: &[u8],
+) -> io::Result<()> {
+    print!(rt; "{number} {label}")?;
     match o {
-        Outcome::Done(n) => {
-            if n <= out.len() {
-                show::octets(rt, &out[0..n]);
-            }
-        }
-        Outcome::Refused => {
-            let before = [0xaau8; 41];
-            let n = out.len();
-            if n <= 41 {
-                if octets::equal(out, &before[0..n]) {
-                    show::text(rt, b"refused, nothing written");
-                }
-            }
-        }
+        Some(n) if n <= out.len() => println!(rt; "{}", Hex(&out[..n])),
+        None if out.iter().all(|x| *x == 0xaa) => println!(rt; "refused, nothing written"),
+        _ => println!(rt; ""),
     }
-    show::text(rt, b"\n");
 }
 
-// Opens the first `end` octets of text with the first `header` of aad.
+// Opens a text.
 fn case(
     rt: HostRuntime,
     number: u64,
-    label: &[u8],
+    label: &str,
     key: [u8; 16],
     nonce: [u8; 13],
-    aad: [u8; 33],
-    header: usize,
-    text: [u8; 41],
-    end: usize,
-)
-    requires { (header ≤ 33) × (end ≤ 41) }
-{
+    aad: &[u8],
+    text: &[u8],
+) -> io::Result<()> {
     let mut out = [0xaau8; 40];
-    let o = ccm::open(key, nonce, &aad[0..header], &text[0..end], &mut out);
-    print_label(rt, number, label);
-    print_outcome(rt, o, &out);
+    let o = ccm::open(key, nonce, aad, text, &mut out);
+    print_outcome(rt, number, label, o, &out)
 }
 
-// Seals the octets of packet from `header` to `total` with those before them.
-fn sealed(
-    rt: HostRuntime,
-    number: u64,
-    key: [u8; 16],
-    nonce: [u8; 13],
-    packet: &[u8],
-    header: usize,
-    total: usize,
-) -> [u8; 41]
-    requires { (header ≤ total) × (total ≤ length packet.now) }
-{
-    let mut text = [0xaau8; 41];
-    let o = ccm::seal(
-        key,
-        nonce,
-        &packet[0..header],
-        &packet[header..total],
-        &mut text,
-    );
-    print_label(rt, number, b" sealed ");
-    print_outcome(rt, o, &text);
-    text
-}
-
-// The vector of a packet: `header` octets of authenticated data, and then the body, `total` in all.
+// The vector of a packet: `header` octets of authenticated data, and then the body.
 fn vector(
     rt: HostRuntime,
     number: u64,
     key: [u8; 16],
     nonce: [u8; 13],
-    packet: [u8; 33],
     header: usize,
-    total: usize,
-)
-    requires { (header ≤ total) × (total ≤ 33) }
+    packet: &[u8],
+) -> io::Result<()>
+    requires { (header ≤ 12) × (header ≤ length packet.now) × (length packet.now ≤ 33) }
 {
-    let text = sealed(rt, number, key, nonce, &packet, header, total);
-    let end = total - header + 8;
-    case(
-        rt,
-        number,
-        b" opened ",
-        key,
-        nonce,
-        packet,
-        header,
-        text,
-        end,
-    );
+    let aad = &packet[..header];
+    let body = &packet[header..];
+    let mut sealed = [0xaau8; 41];
+    let o = ccm::seal(key, nonce, aad, body, &mut sealed);
+    print_outcome(rt, number, "sealed ", o, &sealed)?;
 
-    let mut other_text = text;
-    other_text[0] = text[0] ^ 1;
-    case(
-        rt,
-        number,
-        b" text damaged: ",
-        key,
-        nonce,
-        packet,
-        header,
-        other_text,
-        end,
-    );
+    let end = body.len() + 8;
+    case(rt, number, "opened ", key, nonce, aad, &sealed[..end])?;
 
-    let mut other_aad = packet;
-    other_aad[0] = packet[0] ^ 0x80;
+    let mut other_text = sealed;
+    other_text[0] = sealed[0] ^ 1;
     case(
         rt,
         number,
-        b" data damaged: ",
+        "text damaged: ",
         key,
         nonce,
-        other_aad,
-        header,
-        text,
-        end,
-    );
+        aad,
+        &other_text[..end],
+    )?;
+
+    let mut other_aad = [0u8; 12];
+    octets::copy(aad, &mut other_aad);
+    other_aad[0] = other_aad[0] ^ 0x80;
+    case(
+        rt,
+        number,
+        "data damaged: ",
+        key,
+        nonce,
+        &other_aad[..header],
+        &sealed[..end],
+    )?;
 
     let mut other_nonce = nonce;
     other_nonce[12] = nonce[12] ^ 1;
     case(
         rt,
         number,
-        b" nonce damaged: ",
+        "nonce damaged: ",
         key,
         other_nonce,
-        packet,
-        header,
-        text,
-        end,
-    );
+        aad,
+        &sealed[..end],
+    )
 }
 
-fn first_vectors(rt: HostRuntime) {
+fn first_vectors(rt: HostRuntime) -> io::Result<()> {
     let key: [u8; 16] = [
         0xc0, 0xc1, 0xc2, 0xc3, 0xc4, 0xc5, 0xc6, 0xc7, 0xc8, 0xc9, 0xca, 0xcb, 0xcc, 0xcd, 0xce,
         0xcf,
@@ -160,30 +110,30 @@ fn first_vectors(rt: HostRuntime) {
     let nonce1: [u8; 13] = [
         0x00, 0x00, 0x00, 0x03, 0x02, 0x01, 0x00, 0xa0, 0xa1, 0xa2, 0xa3, 0xa4, 0xa5,
     ];
-    vector(rt, 1, key, nonce1, packet, 8, 31);
+    vector(rt, 1, key, nonce1, 8, &packet[..31])?;
     let nonce2: [u8; 13] = [
         0x00, 0x00, 0x00, 0x04, 0x03, 0x02, 0x01, 0xa0, 0xa1, 0xa2, 0xa3, 0xa4, 0xa5,
     ];
-    vector(rt, 2, key, nonce2, packet, 8, 32);
+    vector(rt, 2, key, nonce2, 8, &packet[..32])?;
     let nonce3: [u8; 13] = [
         0x00, 0x00, 0x00, 0x05, 0x04, 0x03, 0x02, 0xa0, 0xa1, 0xa2, 0xa3, 0xa4, 0xa5,
     ];
-    vector(rt, 3, key, nonce3, packet, 8, 33);
+    vector(rt, 3, key, nonce3, 8, &packet[..33])?;
     let nonce4: [u8; 13] = [
         0x00, 0x00, 0x00, 0x06, 0x05, 0x04, 0x03, 0xa0, 0xa1, 0xa2, 0xa3, 0xa4, 0xa5,
     ];
-    vector(rt, 4, key, nonce4, packet, 12, 31);
+    vector(rt, 4, key, nonce4, 12, &packet[..31])?;
     let nonce5: [u8; 13] = [
         0x00, 0x00, 0x00, 0x07, 0x06, 0x05, 0x04, 0xa0, 0xa1, 0xa2, 0xa3, 0xa4, 0xa5,
     ];
-    vector(rt, 5, key, nonce5, packet, 12, 32);
+    vector(rt, 5, key, nonce5, 12, &packet[..32])?;
     let nonce6: [u8; 13] = [
         0x00, 0x00, 0x00, 0x08, 0x07, 0x06, 0x05, 0xa0, 0xa1, 0xa2, 0xa3, 0xa4, 0xa5,
     ];
-    vector(rt, 6, key, nonce6, packet, 12, 33);
+    vector(rt, 6, key, nonce6, 12, &packet[..33])
 }
 
-fn later_vectors(rt: HostRuntime) {
+fn later_vectors(rt: HostRuntime) -> io::Result<()> {
     let key: [u8; 16] = [
         0xd7, 0x82, 0x8d, 0x13, 0xb2, 0xb0, 0xbd, 0xc3, 0x25, 0xa7, 0x62, 0x36, 0xdf, 0x93, 0xcc,
         0x6b,
@@ -191,21 +141,21 @@ fn later_vectors(rt: HostRuntime) {
     let nonce13: [u8; 13] = [
         0x00, 0x41, 0x2b, 0x4e, 0xa9, 0xcd, 0xbe, 0x3c, 0x96, 0x96, 0x76, 0x6c, 0xfa,
     ];
-    let packet13: [u8; 33] = [
+    let packet13: [u8; 31] = [
         0x0b, 0xe1, 0xa8, 0x8b, 0xac, 0xe0, 0x18, 0xb1, 0x08, 0xe8, 0xcf, 0x97, 0xd8, 0x20, 0xea,
         0x25, 0x84, 0x60, 0xe9, 0x6a, 0xd9, 0xcf, 0x52, 0x89, 0x05, 0x4d, 0x89, 0x5c, 0xea, 0xc4,
-        0x7c, 0x00, 0x00,
+        0x7c,
     ];
-    vector(rt, 13, key, nonce13, packet13, 8, 31);
+    vector(rt, 13, key, nonce13, 8, &packet13)?;
     let nonce14: [u8; 13] = [
         0x00, 0x33, 0x56, 0x8e, 0xf7, 0xb2, 0x63, 0x3c, 0x96, 0x96, 0x76, 0x6c, 0xfa,
     ];
-    let packet14: [u8; 33] = [
+    let packet14: [u8; 32] = [
         0x63, 0x01, 0x8f, 0x76, 0xdc, 0x8a, 0x1b, 0xcb, 0x90, 0x20, 0xea, 0x6f, 0x91, 0xbd, 0xd8,
         0x5a, 0xfa, 0x00, 0x39, 0xba, 0x4b, 0xaf, 0xf9, 0xbf, 0xb7, 0x9c, 0x70, 0x28, 0x94, 0x9c,
-        0xd0, 0xec, 0x00,
+        0xd0, 0xec,
     ];
-    vector(rt, 14, key, nonce14, packet14, 8, 32);
+    vector(rt, 14, key, nonce14, 8, &packet14)?;
     let nonce15: [u8; 13] = [
         0x00, 0x10, 0x3f, 0xe4, 0x13, 0x36, 0x71, 0x3c, 0x96, 0x96, 0x76, 0x6c, 0xfa,
     ];
@@ -214,25 +164,25 @@ fn later_vectors(rt: HostRuntime) {
         0xd7, 0xdc, 0xec, 0x68, 0xec, 0x0b, 0x3b, 0xbb, 0x1a, 0x02, 0xde, 0x8a, 0x2d, 0x1a, 0xa3,
         0x46, 0x13, 0x2e,
     ];
-    vector(rt, 15, key, nonce15, packet15, 8, 33);
+    vector(rt, 15, key, nonce15, 8, &packet15)?;
     let nonce16: [u8; 13] = [
         0x00, 0x76, 0x4c, 0x63, 0xb8, 0x05, 0x8e, 0x3c, 0x96, 0x96, 0x76, 0x6c, 0xfa,
     ];
-    let packet16: [u8; 33] = [
+    let packet16: [u8; 31] = [
         0xd0, 0xd0, 0x73, 0x5c, 0x53, 0x1e, 0x1b, 0xec, 0xf0, 0x49, 0xc2, 0x44, 0x12, 0xda, 0xac,
         0x56, 0x30, 0xef, 0xa5, 0x39, 0x6f, 0x77, 0x0c, 0xe1, 0xa6, 0x6b, 0x21, 0xf7, 0xb2, 0x10,
-        0x1c, 0x00, 0x00,
+        0x1c,
     ];
-    vector(rt, 16, key, nonce16, packet16, 12, 31);
+    vector(rt, 16, key, nonce16, 12, &packet16)?;
     let nonce17: [u8; 13] = [
         0x00, 0xf8, 0xb6, 0x78, 0x09, 0x4e, 0x3b, 0x3c, 0x96, 0x96, 0x76, 0x6c, 0xfa,
     ];
-    let packet17: [u8; 33] = [
+    let packet17: [u8; 32] = [
         0x77, 0xb6, 0x0f, 0x01, 0x1c, 0x03, 0xe1, 0x52, 0x58, 0x99, 0xbc, 0xae, 0xe8, 0x8b, 0x6a,
         0x46, 0xc7, 0x8d, 0x63, 0xe5, 0x2e, 0xb8, 0xc5, 0x46, 0xef, 0xb5, 0xde, 0x6f, 0x75, 0xe9,
-        0xcc, 0x0d, 0x00,
+        0xcc, 0x0d,
     ];
-    vector(rt, 17, key, nonce17, packet17, 12, 32);
+    vector(rt, 17, key, nonce17, 12, &packet17)?;
     let nonce18: [u8; 13] = [
         0x00, 0xd5, 0x60, 0x91, 0x2d, 0x3f, 0x70, 0x3c, 0x96, 0x96, 0x76, 0x6c, 0xfa,
     ];
@@ -241,10 +191,10 @@ fn later_vectors(rt: HostRuntime) {
         0xba, 0xfb, 0x11, 0xa8, 0x2e, 0x2f, 0x07, 0x1d, 0x7c, 0xa4, 0xa5, 0xeb, 0xd9, 0x3a, 0x80,
         0x3b, 0xa8, 0x7f,
     ];
-    vector(rt, 18, key, nonce18, packet18, 12, 33);
+    vector(rt, 18, key, nonce18, 12, &packet18)
 }
 
-fn main(rt: HostRuntime) {
-    first_vectors(rt);
-    later_vectors(rt);
+fn main(rt: HostRuntime) -> io::Result<()> {
+    first_vectors(rt)?;
+    later_vectors(rt)
 }

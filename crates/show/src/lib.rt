@@ -1,35 +1,22 @@
-// What the programs print: text, numbers, and octets in hexadecimal digits.
-// No contract can say what is printed: it is compared with the program's file stdout. Each function hands back what it
-// was given to print: how many octets, or the number. A write that fails is let go.
+// Octets in hexadecimal digits, for the programs. Nothing else here is printed by hand.
 #![tactic(auto)]
 
-ghost use Rattle.std.specs.Prelude.{◌≡◌, length};
+ghost use Rattle.std.specs.Prelude.{◌≡◌, length, Some};
+ghost use Rattle.show.specs.Digits.{hexadecimal};
 
-pub fn text(rt: HostRuntime, s: &[u8]) -> usize
-    ensures { result ≡ length s.now }
-{
-    let _ = rt.write_all(s);
-    s.len()
-}
+use std::fmt;
 
-pub fn number(rt: HostRuntime, n: u64) -> u64
-    ensures { result ≡ n }
-{
-    let _ = print!(rt; "{n}");
-    n
-}
+// Octets in hexadecimal digits.
+#[derive(Clone, Copy)]
+pub struct Hex<'a>(pub &'a [u8]);
 
-fn octet(rt: HostRuntime, x: u8) {
-    let _ = print!(rt; "{x:02x}");
-}
+impl fmt::Display for Hex<'_> {
+    ghost output = { λ h. Some (hexadecimal h.0.now) };
 
-pub fn octets(rt: HostRuntime, s: &[u8]) -> usize
-    ensures { result ≡ length s.now }
-{
-    let mut i: usize = 0;
-    while i < s.len() {
-        octet(rt, s[i]);
-        i += 1;
+    fn fmt<W: fmt::Write>(&self, f: &mut fmt::Formatter<W>) -> fmt::Result {
+        for &x in self.0 {
+            write!(f, "{x:02x}")?;
+        }
+        Ok(())
     }
-    i
 }

@@ -7,14 +7,13 @@
 // numbers, the table and the room.
 #![tactic(auto)]
 
-ghost use Rattle.std.specs.Prelude.{◌+◌, ◌≤◌, ◌<◌, length};
+ghost use Rattle.std.specs.Prelude.{◌+◌, ◌≤◌, length};
 
 use ccmp::MOST_BODY;
-use rules::{
-    ADDRESS_OCTETS, Answer, Counts, ENTRIES, Entry, KEY_OCTETS, PRIORITIES, Pairing, Receiver,
-    Table, Triple,
-};
+use octets::octets_at;
+use rules::{Counts, ENTRIES, Entry, Pairing, Receiver, Refusal, Success, Table, Triple};
 use std::io::Read;
+use std::{array, io};
 use table::Answered;
 
 // The octets of an entry and of a table as they are written, and of a request before its frame.
@@ -27,336 +26,158 @@ const REQUEST: usize = TABLE + 41;
 // The most octets of a frame or a room.
 const SPACE: usize = MOST_BODY + 4096;
 
-fn octets_6(b: &[u8], i: usize) -> [u8; ADDRESS_OCTETS]
-    requires { i + 6 ≤ length b.now }
-{
-    [b[i], b[i + 1], b[i + 2], b[i + 3], b[i + 4], b[i + 5]]
-}
-
-fn octets_16(b: &[u8], i: usize) -> [u8; KEY_OCTETS]
-    requires { i + 16 ≤ length b.now }
-{
-    [
-        b[i],
-        b[i + 1],
-        b[i + 2],
-        b[i + 3],
-        b[i + 4],
-        b[i + 5],
-        b[i + 6],
-        b[i + 7],
-        b[i + 8],
-        b[i + 9],
-        b[i + 10],
-        b[i + 11],
-        b[i + 12],
-        b[i + 13],
-        b[i + 14],
-        b[i + 15],
-    ]
-}
-
-fn wide(x: u8) -> u64
-    ensures { result < 256 }
-{
-    x as u64
-}
-
-fn u32_at(b: &[u8], i: usize) -> u64
-    requires { i + 4 ≤ length b.now }
-    ensures { result < 4294967296 }
-{
-    wide(b[i]) + wide(b[i + 1]) * 256 + wide(b[i + 2]) * 65536 + wide(b[i + 3]) * 16777216
-}
-
-fn u64_at(b: &[u8], i: usize) -> u64
-    requires { i + 8 ≤ length b.now }
-{
-    u32_at(b, i) + u32_at(b, i + 4) * 4294967296
-}
-
-fn u16_at(b: &[u8], i: usize) -> u16
-    requires { i + 2 ≤ length b.now }
-{
-    (wide(b[i]) + wide(b[i + 1]) * 256) as u16
-}
-
-// The receiver with the windows of an entry: their counters from i on, and their bits from j on.
-fn with_windows(r: Receiver, b: &[u8], i: usize, j: usize) -> Receiver
-    requires { (i + 128 ≤ length b.now) × (j + 32 ≤ length b.now) }
-{
-    let mut s = r;
-    let mut p: usize = 0;
-    while p < PRIORITIES {
-        s.replay[p] = u64_at(b, i + 8 * p);
-        s.seen[p] = u16_at(b, j + 2 * p);
-        p += 1;
-    }
-    s
-}
-
-fn entry_at(b: &[u8], i: usize) -> Entry
-    requires { i + 217 ≤ length b.now }
-{
+fn entry_of(b: &[u8; ENTRY]) -> Entry {
     let counts = Counts {
-        format_errors: u32_at(b, i + 168) as u32,
-        replays: u32_at(b, i + 172) as u32,
-        decrypt_errors: u32_at(b, i + 176) as u32,
-        opened: u32_at(b, i + 180) as u32,
+        format_errors: u32::from_le_bytes(octets_at(b, 168)),
+        replays: u32::from_le_bytes(octets_at(b, 172)),
+        decrypt_errors: u32::from_le_bytes(octets_at(b, 176)),
+        opened: u32::from_le_bytes(octets_at(b, 180)),
     };
-    let peer = octets_6(b, i + 10);
-    let key = octets_16(b, i + 16);
-    let empty = Receiver {
-        key,
-        key_id: b[i + 9],
-        peer,
-        size: b[i + 184],
-        replay: [0; PRIORITIES],
-        seen: [0; PRIORITIES],
+    let receiver = Receiver {
+        key: octets_at(b, 16),
+        key_id: b[9],
+        peer: octets_at(b, 10),
+        size: b[184],
+        replay: array::from_fn(|p| u64::from_le_bytes(octets_at(b, 40 + 8 * p))),
+        seen: array::from_fn(|p| u16::from_le_bytes(octets_at(b, 185 + 2 * p))),
         counts,
     };
-    let receiver = with_windows(empty, b, i + 40, i + 185);
-    let own = octets_6(b, i + 3);
     Entry {
-        used: b[i] != 0,
-        may_send: b[i + 1] != 0,
-        may_receive: b[i + 2] != 0,
-        own,
-        last: u64_at(b, i + 32),
+        used: b[0] != 0,
+        may_send: b[1] != 0,
+        may_receive: b[2] != 0,
+        own: octets_at(b, 3),
+        last: u64::from_le_bytes(octets_at(b, 32)),
         receiver,
     }
 }
 
-fn table_at(b: &[u8]) -> Table
-    requires { 3476 ≤ length b.now }
-{
+// The table at the front of a request.
+fn table_of(b: &[u8; REQUEST]) -> Table {
     let mut t = table::new_table();
-    let mut i: usize = 0;
-    while i < ENTRIES {
-        let e = entry_at(b, ENTRY * i);
-        t.entries[i] = e;
-        i += 1;
+    let (entries, _) = b.as_chunks::<ENTRY>();
+    for (entry, octets) in t.entries.iter_mut().zip(entries) {
+        *entry = entry_of(octets);
     }
-    t.format_errors = u32_at(b, TABLE - 4) as u32;
+    t.format_errors = u32::from_le_bytes(octets_at(b, TABLE - 4));
     t
 }
 
-fn in_octets(n: u64) -> [u8; 8] {
-    [
-        (n % 256) as u8,
-        ((n >> 8) % 256) as u8,
-        ((n >> 16) % 256) as u8,
-        ((n >> 24) % 256) as u8,
-        ((n >> 32) % 256) as u8,
-        ((n >> 40) % 256) as u8,
-        ((n >> 48) % 256) as u8,
-        ((n >> 56) % 256) as u8,
-    ]
-}
-
-fn write_number(rt: HostRuntime, n: u64, octets: usize)
-    requires { octets ≤ 8 }
+// Writes octets from place i on.
+fn put(octets: &[u8], b: &mut [u8; ENTRY], i: usize)
+    requires { i + length octets.now ≤ 217 }
 {
-    let b = in_octets(n);
-    let _ = rt.write_all(&b[0..octets]);
+    b[i..i + octets.len()].copy_from_slice(octets);
 }
 
-fn flag(f: bool) -> u8 {
-    if f {
-        return 1;
-    }
-    0
-}
-
-// Octet k of a number, below 8.
-fn octet(n: u64, k: usize) -> u8 {
-    let b = in_octets(n);
-    if k < 8 {
-        return b[k];
-    }
-    0
-}
-
-// Octet i of an entry's counts.
-fn count_octet(c: Counts, i: usize) -> u8 {
-    if i < 4 {
-        return octet(c.format_errors as u64, i);
-    }
-    if i < 8 {
-        return octet(c.replays as u64, i - 4);
-    }
-    if i < 12 {
-        return octet(c.decrypt_errors as u64, i - 8);
-    }
-    octet(c.opened as u64, i - 12)
-}
-
-// Octet i of a receiver, from its key ID on.
-fn receiver_octet(r: Receiver, last: u64, i: usize) -> u8 {
-    if i < 1 {
-        return r.key_id;
-    }
-    if i < 7 {
-        let peer = r.peer;
-        return peer[i - 1];
-    }
-    if i < 23 {
-        let key = r.key;
-        return key[i - 7];
-    }
-    if i < 31 {
-        return octet(last, i - 23);
-    }
-    if i < 159 {
-        let replay = r.replay;
-        return octet(replay[(i - 31) / 8], (i - 31) % 8);
-    }
-    if i < 175 {
-        let c = r.counts;
-        return count_octet(c, i - 159);
-    }
-    if i < 176 {
-        return r.size;
-    }
-    if i < 208 {
-        let seen = r.seen;
-        return octet(seen[(i - 176) / 2] as u64, (i - 176) % 2);
-    }
-    0
-}
-
-// Octet i of an entry.
-fn entry_octet(e: Entry, i: usize) -> u8 {
-    if i < 1 {
-        return flag(e.used);
-    }
-    if i < 2 {
-        return flag(e.may_send);
-    }
-    if i < 3 {
-        return flag(e.may_receive);
-    }
-    if i < 9 {
-        let own = e.own;
-        return own[i - 3];
-    }
+fn octets_of(e: Entry) -> [u8; ENTRY] {
     let r = e.receiver;
-    receiver_octet(r, e.last, i - 9)
-}
-
-fn write_entry(rt: HostRuntime, e: Entry) {
     let mut b = [0u8; ENTRY];
-    let mut i: usize = 0;
-    while i < ENTRY {
-        b[i] = entry_octet(e, i);
-        i += 1;
-    }
-    let _ = rt.write_all(&b);
+    b[0] = u8::from(e.used);
+    b[1] = u8::from(e.may_send);
+    b[2] = u8::from(e.may_receive);
+    put(&e.own, &mut b, 3);
+    b[9] = r.key_id;
+    put(&r.peer, &mut b, 10);
+    put(&r.key, &mut b, 16);
+    put(&e.last.to_le_bytes(), &mut b, 32);
+    put(r.replay.map(|n| n.to_le_bytes()).as_flattened(), &mut b, 40);
+    put(&r.counts.format_errors.to_le_bytes(), &mut b, 168);
+    put(&r.counts.replays.to_le_bytes(), &mut b, 172);
+    put(&r.counts.decrypt_errors.to_le_bytes(), &mut b, 176);
+    put(&r.counts.opened.to_le_bytes(), &mut b, 180);
+    b[184] = r.size;
+    put(
+        r.seen.map(|bits| bits.to_le_bytes()).as_flattened(),
+        &mut b,
+        185,
+    );
+    b
 }
 
-fn write_table(rt: HostRuntime, t: Table) {
-    let mut i: usize = 0;
-    while i < ENTRIES {
-        let e = t.entries[i];
-        write_entry(rt, e);
-        i += 1;
+fn write_table(rt: HostRuntime, t: Table) -> io::Result<()> {
+    for entry in t.entries {
+        rt.write_all(&octets_of(entry))?;
     }
-    write_number(rt, t.format_errors as u64, 4);
+    rt.write_all(&t.format_errors.to_le_bytes())
 }
 
-fn write_answer(rt: HostRuntime, a: Answer) {
-    match a {
-        Answer::Done(n, p, k) => {
-            write_number(rt, 0, 8);
-            write_number(rt, n, 8);
-            write_number(rt, p as u64, 8);
-            write_number(rt, k as u64, 8);
-        }
-        Answer::Refused(x) => {
-            write_number(rt, x as u64, 8);
-            write_number(rt, 0, 8);
-            write_number(rt, 0, 8);
-            write_number(rt, 0, 8);
-        }
-    }
+// The numbers of bench's `parts_of`, written out, since a program that stood on bench would bring all that bench calls.
+fn write_answer(rt: HostRuntime, answer: Result<Success, Refusal>) -> io::Result<()> {
+    let numbers = match answer {
+        Ok(done) => [0, done.number, u64::from(done.priority), done.octets as u64],
+        Err(refusal) => [u64::from(refusal.number()), 0, 0, 0],
+    };
+    rt.write_all(numbers.map(|n| n.to_le_bytes()).as_flattened())
 }
 
 // The call of a request, on its table.
-fn called(b: &[u8], frame: &[u8], room: &mut [u8]) -> Answered
-    requires { 3517 ≤ length b.now }
-{
-    let t = table_at(b);
-    let own = octets_6(b, TABLE + 1);
-    let peer = octets_6(b, TABLE + 7);
-    let key_id = b[TABLE + 13];
-    let triple = Triple { own, peer, key_id };
+fn called(b: &[u8; REQUEST], frame: &[u8], room: &mut [u8]) -> Answered {
+    let t = table_of(b);
+    let triple = Triple {
+        own: octets_at(b, TABLE + 1),
+        peer: octets_at(b, TABLE + 7),
+        key_id: b[TABLE + 13],
+    };
     match b[TABLE] {
-        b'a' => {
-            let key = octets_16(b, TABLE + 14);
-            table::add(
-                t,
-                Pairing {
-                    triple,
-                    key,
-                    size: b[TABLE + 32],
-                    may_send: b[TABLE + 30] != 0,
-                    may_receive: b[TABLE + 31] != 0,
-                },
-            )
-        }
+        b'a' => table::add(
+            t,
+            Pairing {
+                triple,
+                key: octets_at(b, TABLE + 14),
+                size: b[TABLE + 32],
+                may_send: b[TABLE + 30] != 0,
+                may_receive: b[TABLE + 31] != 0,
+            },
+        ),
         b'r' => table::remove(t, triple),
-        b's' => table::seal(t, key_id, frame, room),
+        b's' => table::seal(t, triple.key_id, frame, room),
         b'o' => table::open(t, frame, room),
-        _ => {
-            let new = table::new_table();
-            Answered {
-                answer: Answer::Done(0, 0, 0),
-                table: new,
-            }
-        }
+        _ => Answered {
+            answer: Ok(Success::NO_FRAME),
+            table: table::new_table(),
+        },
     }
 }
 
 // Reads what is lent, makes the call and writes what it leaves.
-fn serve(rt: HostRuntime, request: &[u8], frame: &mut [u8], room: &mut [u8])
-    requires { 3517 ≤ length request.now }
-{
+fn serve(
+    rt: HostRuntime,
+    request: &[u8; REQUEST],
+    frame: &mut [u8],
+    room: &mut [u8],
+) -> io::Result<()> {
+    // Let go, since a request may be cut off here: it is answered on what was read, with zeros for the rest.
     let _ = rt.stdin().read_exact(frame);
     let _ = rt.stdin().read_exact(room);
     let done = called(request, frame, room);
-    let answer = done.answer;
-    write_answer(rt, answer);
-    let t = done.table;
-    write_table(rt, t);
-    let _ = rt.write_all(room);
+    write_answer(rt, done.answer)?;
+    write_table(rt, done.table)?;
+    rt.write_all(room)
 }
 
 // Whether there was a request.
-fn turn(rt: HostRuntime) -> bool {
+fn turn(rt: HostRuntime) -> io::Result<bool> {
     let mut request = [0u8; REQUEST];
     if rt.stdin().read_exact(&mut request).is_err() {
-        return false;
+        return Ok(false);
     }
-    let f = u32_at(&request, TABLE + 33) as usize;
-    let r = u32_at(&request, TABLE + 37) as usize;
-    if SPACE < f {
-        return false;
-    }
-    if SPACE < r {
-        return false;
+    let f = u32::from_le_bytes(octets_at(&request, TABLE + 33)) as usize;
+    let r = u32::from_le_bytes(octets_at(&request, TABLE + 37)) as usize;
+    if SPACE < f || SPACE < r {
+        return Ok(false);
     }
     let mut frame = [0u8; SPACE];
     let mut room = [0u8; SPACE];
-    serve(rt, &request, &mut frame[0..f], &mut room[0..r]);
-    true
+    serve(rt, &request, &mut frame[0..f], &mut room[0..r])?;
+    Ok(true)
 }
 
-fn main(rt: HostRuntime) {
-    let mut turns: u64 = 0xffff_ffff_ffff_ffff;
-    while 0 < turns {
-        if !turn(rt) {
-            return;
+fn main(rt: HostRuntime) -> io::Result<()> {
+    for _ in 0..u64::MAX {
+        if !turn(rt)? {
+            break;
         }
-        turns -= 1;
     }
+    Ok(())
 }

@@ -3,10 +3,12 @@ ghost use Rattle.std.specs.Prelude.{◌<◌, ◌≤◌};
 ghost use Rattle.rules.specs.Limits.{priorities, table_entries};
 ghost use Rattle.table_limits.specs.Size.{size};
 
+use cases::{with, with_counter};
 use ccmp::SMALL_WINDOW;
 use rules::{Entry, Pairing, Table, Triple};
 
-// The octets of an array, more than a frame has that is sealed here.
+// The octets of an array, more than a frame has that is sealed here. Room is passed as a number of them, which each contract bounds, since the
+// call that is given the room makes the array, and tells what stands past the room too.
 pub(crate) const SIZE: usize = 48;
 
 // The station that serves the cameras. Camera i is station 64 + i, for i under 64.
@@ -21,18 +23,18 @@ fn key(n: u8) -> [u8; 16] {
 }
 
 pub(crate) fn triple(own: u8, peer: u8, key_id: u8) -> Triple {
-    let own = address(own);
-    let peer = address(peer);
-    Triple { own, peer, key_id }
+    Triple {
+        own: address(own),
+        peer: address(peer),
+        key_id,
+    }
 }
 
 // Two stations with key n and windows of size 1, both flags on.
 pub(crate) fn pairing(own: u8, peer: u8, key_id: u8, n: u8) -> Pairing {
-    let triple = triple(own, peer, key_id);
-    let key = key(n);
     Pairing {
-        triple,
-        key,
+        triple: triple(own, peer, key_id),
+        key: key(n),
         size: SMALL_WINDOW,
         may_send: true,
         may_receive: true,
@@ -40,16 +42,15 @@ pub(crate) fn pairing(own: u8, peer: u8, key_id: u8, n: u8) -> Pairing {
 }
 
 pub(crate) fn sized(x: Pairing, size: u8) -> Pairing {
-    let mut y = x;
-    y.size = size;
-    y
+    Pairing { size, ..x }
 }
 
 pub(crate) fn flagged(x: Pairing, may_send: bool, may_receive: bool) -> Pairing {
-    let mut y = x;
-    y.may_send = may_send;
-    y.may_receive = may_receive;
-    y
+    Pairing {
+        may_send,
+        may_receive,
+        ..x
+    }
 }
 
 // The box and camera i, with key ID 2 and key n.
@@ -60,29 +61,19 @@ pub(crate) fn camera(i: u8, n: u8) -> Pairing {
 // A table with cameras 0 to n - 1, each with the key of its own number.
 pub(crate) fn cameras(n: u8) -> Table {
     let mut t = table::new_table();
-    let mut i: u8 = 0;
-    while i < n {
-        let added = table::add(t, camera(i, i));
-        let next = added.table;
-        t = next;
-        i += 1;
+    for i in 0..n {
+        t = table::add(t, camera(i, i)).table;
     }
     t
 }
 
-// An entry in use with this last number, and n as the replay counter of priority p.
+// An entry in use with this last number, and n as the replay counter of priority p. A priority is passed as its place, which each contract
+// bounds: a type that holds the bound would have to be made in every case.
 pub(crate) fn entry(x: Pairing, last: u64, p: usize, n: u64) -> Entry
     requires { p < priorities }
 {
-    let triple = x.triple;
-    let own = triple.own;
-    let peer = triple.peer;
-    let key = x.key;
-    let mut receiver = ccmp::new_receiver(key, triple.key_id, peer, x.size);
-    receiver.replay[p] = n;
-    if n != 0 {
-        receiver.seen[p] = 1;
-    }
+    let Triple { own, peer, key_id } = x.triple;
+    let receiver = with_counter(ccmp::new_receiver(x.key, key_id, peer, x.size), p, n);
     Entry {
         used: true,
         may_send: x.may_send,
@@ -97,9 +88,10 @@ pub(crate) fn entry(x: Pairing, last: u64, p: usize, n: u64) -> Entry
 pub(crate) fn free(x: Pairing, last: u64, p: usize, n: u64) -> Entry
     requires { p < priorities }
 {
-    let mut e = entry(x, last, p, n);
-    e.used = false;
-    e
+    Entry {
+        used: false,
+        ..entry(x, last, p, n)
+    }
 }
 
 // An entry in use with these bits in the window of priority p, of which n is the greatest number.
@@ -107,9 +99,7 @@ pub(crate) fn held(x: Pairing, p: usize, n: u64, bits: u16) -> Entry
     requires { p < priorities }
 {
     let mut e = entry(x, 0, p, n);
-    let mut receiver = e.receiver;
-    receiver.seen[p] = bits;
-    e.receiver = receiver;
+    e.receiver.seen[p] = bits;
     e
 }
 
@@ -135,15 +125,6 @@ pub(crate) fn plain(to: u8, from: u8) -> [u8; SIZE] {
     frame
 }
 
-// The frame with octet i changed to x.
-pub(crate) fn with(frame: [u8; SIZE], i: usize, x: u8) -> [u8; SIZE]
-    requires { i < size }
-{
-    let mut changed = frame;
-    changed[i] = x;
-    changed
-}
-
 // The frame with one bit of octet i changed.
 pub(crate) fn damaged(frame: [u8; SIZE], i: usize) -> [u8; SIZE]
     requires { i < size }
@@ -153,18 +134,16 @@ pub(crate) fn damaged(frame: [u8; SIZE], i: usize) -> [u8; SIZE]
 
 // The first k octets of the frame sealed under this number by the station that it is from, with key n.
 pub(crate) fn text_of(frame: [u8; SIZE], k: usize, n: u8, key_id: u8, number: u64) -> [u8; SIZE]
-    requires { (k ≤ size) × (0 < number) }
+    requires { k ≤ size }
 {
     let mut s = ccmp::new_sender(key(n), key_id, address(frame[15]));
-    s.last = number - 1;
+    s.last = number.saturating_sub(1);
     let mut out = [0u8; SIZE];
     ccmp::seal(s, &frame[0..k], &mut out);
     out
 }
 
 // The 42 octets that camera i seals to the box under this number, with key n.
-pub(crate) fn heard(i: u8, n: u8, number: u64) -> [u8; SIZE]
-    requires { 0 < number }
-{
+pub(crate) fn heard(i: u8, n: u8, number: u64) -> [u8; SIZE] {
     text_of(plain(BOX, 64 | i), 26, n, 2, number)
 }

@@ -4,10 +4,12 @@
 // digits; a line feed.
 #![tactic(auto)]
 
-ghost use Rattle.std.specs.Prelude.{◌≡◌, ◌+◌, ◌≤◌, length};
+ghost use Rattle.std.specs.Prelude.{◌+◌, ◌≤◌, length};
 
 use ccmp::{ADDED, LARGE_WINDOW, SMALL_WINDOW};
-use rules::{Answer, ENTRIES, Pairing, Table, Triple};
+use rules::{Pairing, Table, Triple};
+use show::Hex;
+use std::io;
 use std::io::Read;
 
 const REQUEST: usize = 10;
@@ -17,6 +19,25 @@ const HEADER: usize = 24;
 const SHORT: usize = HEADER + 64;
 
 const LONG: usize = HEADER + 1500;
+
+// The bodies that frames have.
+#[derive(Clone, Copy)]
+enum Body {
+    Short,
+    Long,
+}
+
+impl Body {
+    // The octets of a frame with this body.
+    fn size(self) -> usize
+        ensures { (24 ≤ result) × (result ≤ 1524) }
+    {
+        match self {
+            Body::Short => SHORT,
+            Body::Long => LONG,
+        }
+    }
+}
 
 // How many octets of the last frame are printed.
 const END: usize = 8;
@@ -34,8 +55,7 @@ const BOX: [u8; 6] = *b"\x02box-1";
 // A table with every entry in use, with windows of this size.
 fn full_table(window: u8) -> Table {
     let mut table = table::new_table();
-    for i in 0..ENTRIES {
-        let n = i as u8 + 1;
+    for n in 1..=16 {
         let triple = Triple {
             own: BOX,
             peer: [2, b'c', b'a', b'm', b'-', n],
@@ -48,8 +68,7 @@ fn full_table(window: u8) -> Table {
             may_send: true,
             may_receive: true,
         };
-        let added = table::add(table, pairing);
-        table = added.table;
+        table = table::add(table, pairing).table;
     }
     table
 }
@@ -61,52 +80,13 @@ fn frame_of(header: [u8; HEADER]) -> [u8; LONG] {
     frame
 }
 
-// 1 for done, 0 for a refusal.
-fn done(answer: Answer) -> u64 {
-    match answer {
-        Answer::Done(_, _, _) => 1,
-        Answer::Refused(_) => 0,
-    }
-}
-
-// Seals the frame, and gives how often that was done.
-fn seals_by_table(calls: u64, frame: &[u8], out: &mut [u8]) -> u64 {
-    let mut table = full_table(SMALL_WINDOW);
-    let mut count = 0;
-    for _ in 0..calls {
-        let sealed = table::seal(table, 0, frame, out);
-        table = sealed.table;
-        let answer = sealed.answer;
-        count = std::num::wrapping_add_u64(count, done(answer));
-    }
-    count
-}
-
-fn seals_by_record(calls: u64, frame: &[u8], out: &mut [u8]) -> u64 {
-    let fresh = ccmp::fresh_sender(KEY, 0, BOX);
-    let mut sender = fresh.sender;
-    let mut count = 0;
-    for _ in 0..calls {
-        let sealed = ccmp::seal(sender, frame, out);
-        sender = sealed.sender;
-        let answer = sealed.answer;
-        count = std::num::wrapping_add_u64(count, done(answer));
-    }
-    count
-}
-
 // The last camera seals the frame again and again, until air is full.
 fn fill(frame: &[u8], air: &mut [u8])
     requires { length frame.now ≤ 1524 }
 {
-    let fresh = ccmp::fresh_sender(KEY, 0, LAST);
-    let mut sender = fresh.sender;
-    let size = frame.len() + ADDED;
-    let mut at = 0;
-    while size <= air.len() - at {
-        let sealed = ccmp::seal(sender, frame, &mut air[at..at + size]);
-        sender = sealed.sender;
-        at += size;
+    let mut sender = ccmp::fresh_sender(KEY, 0, LAST).sender;
+    for room in air.chunks_mut(frame.len() + ADDED) {
+        sender = ccmp::seal(sender, frame, room).sender;
     }
 }
 
@@ -121,88 +101,100 @@ fn next(at: usize, size: usize, air: usize) -> usize
     at
 }
 
-// Opens the frames of air in order, each time around from a fresh table, and gives how often that was done.
-fn opens_by_table(window: u8, calls: u64, size: usize, air: &[u8], out: &mut [u8]) -> u64
-    requires { size ≤ length air.now }
-{
-    let fresh = full_table(window);
-    let mut table = fresh;
-    let mut count = 0;
-    let mut end = 0;
-    for _ in 0..calls {
-        let at = next(end, size, air.len());
-        if at == 0 {
-            table = fresh;
-        }
-        end = at + size;
-        let opened = table::open(table, &air[at..end], out);
-        table = opened.table;
-        let answer = opened.answer;
-        count = std::num::wrapping_add_u64(count, done(answer));
-    }
-    count
-}
-
-fn opens_by_record(window: u8, calls: u64, size: usize, air: &[u8], out: &mut [u8]) -> u64
-    requires { size ≤ length air.now }
-{
-    let fresh = ccmp::fresh_receiver(KEY, 0, LAST, window);
-    let mut receiver = fresh.receiver;
-    let mut count = 0;
-    let mut end = 0;
-    for _ in 0..calls {
-        let at = next(end, size, air.len());
-        if at == 0 {
-            receiver = fresh.receiver;
-        }
-        end = at + size;
-        let opened = ccmp::open(receiver, &air[at..end], out);
-        receiver = opened.receiver;
-        let answer = opened.answer;
-        count = std::num::wrapping_add_u64(count, done(answer));
-    }
-    count
-}
-
 // How many calls were done, and the end of the last frame written.
-fn tell(rt: HostRuntime, count: u64, end: &[u8]) {
-    show::number(rt, count);
-    show::text(rt, b" done, the last ends in ");
-    show::octets(rt, end);
-    show::text(rt, b"\n");
+fn tell(rt: HostRuntime, count: u64, end: &[u8]) -> io::Result<()> {
+    println!(rt; "{count} done, the last ends in {}", Hex(end))
 }
 
-// The box seals a frame of this size for its last camera.
-fn seals(rt: HostRuntime, by_table: bool, size: usize, calls: u64)
-    requires { size ≤ 1524 }
+// The box seals a frame for its last camera again and again by this call, which says whether it was done.
+#[inline(always)]
+fn seals<F: FnMut(&[u8], &mut [u8]) -> bool>(
+    rt: HostRuntime,
+    body: Body,
+    calls: u64,
+    mut call: F,
+) -> io::Result<()>
+    requires { F.IsAlwaysCallable call }
 {
+    let size = body.size();
     let frame = frame_of(*b"\x08\x02\x00\x00\x02cam-\x10\x02box-1\x02box-1\x10\x00");
     let mut out = [0u8; LONG + ADDED];
-    let end = size + ADDED;
-    if by_table {
-        let count = seals_by_table(calls, &frame[0..size], &mut out);
-        tell(rt, count, &out[end - END..end]);
-        return;
+    let mut count: u64 = 0;
+    for _ in 0..calls {
+        count = count.wrapping_add(u64::from(call(&frame[0..size], &mut out)));
     }
-    let count = seals_by_record(calls, &frame[0..size], &mut out);
-    tell(rt, count, &out[end - END..end]);
+    let end = size + ADDED;
+    tell(rt, count, &out[end - END..end])
 }
 
-// The box opens frames of this size from its last camera.
-fn opens(rt: HostRuntime, by_table: bool, window: u8, size: usize, calls: u64)
-    requires { (24 ≤ size) × (size ≤ 1524) }
+fn seals_by_table(rt: HostRuntime, body: Body, calls: u64) -> io::Result<()> {
+    let mut table = full_table(SMALL_WINDOW);
+    seals(rt, body, calls, |frame, out| {
+        let sealed = table::seal(table, 0, frame, out);
+        table = sealed.table;
+        sealed.answer.is_ok()
+    })
+}
+
+fn seals_by_record(rt: HostRuntime, body: Body, calls: u64) -> io::Result<()> {
+    let mut sender = ccmp::fresh_sender(KEY, 0, BOX).sender;
+    seals(rt, body, calls, |frame, out| {
+        let sealed = ccmp::seal(sender, frame, out);
+        sender = sealed.sender;
+        sealed.answer.is_ok()
+    })
+}
+
+// The box opens frames from its last camera in order, each by this call, which is told where a turn starts at the front of air.
+#[inline(always)]
+fn opens<F: FnMut(&[u8], bool, &mut [u8]) -> bool>(
+    rt: HostRuntime,
+    body: Body,
+    calls: u64,
+    mut call: F,
+) -> io::Result<()>
+    requires { F.IsAlwaysCallable call }
 {
+    let size = body.size();
     let frame = frame_of(*b"\x08\x01\x00\x00\x02box-1\x02cam-\x10\x02box-1\x10\x00");
     let mut air = [0u8; AIR];
     fill(&frame[0..size], &mut air);
     let mut out = [0u8; LONG];
-    if by_table {
-        let count = opens_by_table(window, calls, size + ADDED, &air, &mut out);
-        tell(rt, count, &out[size - END..size]);
-        return;
+    let mut count: u64 = 0;
+    let mut end = 0;
+    for _ in 0..calls {
+        let at = next(end, size + ADDED, AIR);
+        end = at + size + ADDED;
+        count = count.wrapping_add(u64::from(call(&air[at..end], at == 0, &mut out)));
     }
-    let count = opens_by_record(window, calls, size + ADDED, &air, &mut out);
-    tell(rt, count, &out[size - END..size]);
+    tell(rt, count, &out[size - END..size])
+}
+
+// Each turn is opened from a fresh table, or a fresh record.
+fn opens_by_table(rt: HostRuntime, window: u8, body: Body, calls: u64) -> io::Result<()> {
+    let fresh = full_table(window);
+    let mut table = fresh;
+    opens(rt, body, calls, |frame, anew, out| {
+        if anew {
+            table = fresh;
+        }
+        let opened = table::open(table, frame, out);
+        table = opened.table;
+        opened.answer.is_ok()
+    })
+}
+
+fn opens_by_record(rt: HostRuntime, window: u8, body: Body, calls: u64) -> io::Result<()> {
+    let fresh = ccmp::fresh_receiver(KEY, 0, LAST, window).receiver;
+    let mut receiver = fresh;
+    opens(rt, body, calls, |frame, anew, out| {
+        if anew {
+            receiver = fresh;
+        }
+        let opened = ccmp::open(receiver, frame, out);
+        receiver = opened.receiver;
+        opened.answer.is_ok()
+    })
 }
 
 // The size of the windows of a request whose first letter is this.
@@ -213,50 +205,41 @@ fn window_of(way: u8) -> u8 {
     SMALL_WINDOW
 }
 
-// The octets of a frame whose body has this letter.
-fn size_of(letter: u8) -> usize
-    ensures { (24 ≤ result) × (result ≤ 1524) }
-{
+// The body of a request with this letter.
+fn body_of(letter: u8) -> Body {
     if letter == b's' {
-        return SHORT;
+        return Body::Short;
     }
-    LONG
+    Body::Long
 }
 
 // What is no digit counts as 0.
-fn digit(x: u8) -> u64
-    ensures { result ≤ 9 }
-{
-    if x < b'0' {
-        return 0;
+fn digit(x: u8) -> u64 {
+    match x {
+        b'0'..=b'9' => u64::from(x - b'0'),
+        _ => 0,
     }
-    if b'9' < x {
-        return 0;
-    }
-    (x - b'0') as u64
 }
 
-fn serve(rt: HostRuntime, request: &[u8])
-    requires { length request.now ≡ 10 }
-{
+fn serve(rt: HostRuntime, request: &[u8; REQUEST]) -> io::Result<()> {
     let way = request[0];
     let by_table = way == b't' || way == b'T';
+    let body = body_of(request[2]);
+    // Six digits never wrap.
+    let calls = request[3..9]
+        .iter()
+        .fold(0u64, |n, x| n.wrapping_mul(10).wrapping_add(digit(*x)));
     let window = window_of(way);
-    let size = size_of(request[2]);
-    let calls = digit(request[3]) * 100000
-        + digit(request[4]) * 10000
-        + digit(request[5]) * 1000
-        + digit(request[6]) * 100
-        + digit(request[7]) * 10
-        + digit(request[8]);
-    if request[1] == b's' {
-        seals(rt, by_table, size, calls);
-    } else {
-        opens(rt, by_table, window, size, calls);
+    match (request[1], by_table) {
+        (b's', true) => seals_by_table(rt, body, calls),
+        (b's', false) => seals_by_record(rt, body, calls),
+        (_, true) => opens_by_table(rt, window, body, calls),
+        (_, false) => opens_by_record(rt, window, body, calls),
     }
 }
 
-// Reads until the room is full, the input ends or a read fails, and gives how many octets were read.
+// Reads until the room is full, the input ends or a read fails, and gives how many octets were read. It is a `while`, since how far each turn
+// goes is what the read gives.
 fn read_full(rt: HostRuntime, room: &mut [u8]) -> usize
     ensures { result ≤ length room.new }
 {
@@ -272,12 +255,12 @@ fn read_full(rt: HostRuntime, room: &mut [u8]) -> usize
     done
 }
 
-fn main(rt: HostRuntime) {
+fn main(rt: HostRuntime) -> io::Result<()> {
     let mut text = [0u8; 256];
     let n = read_full(rt, &mut text);
-    let mut at = 0;
-    while REQUEST <= n - at {
-        serve(rt, &text[at..at + REQUEST]);
-        at += REQUEST;
+    let (requests, _) = text[0..n].as_chunks::<REQUEST>();
+    for request in requests {
+        serve(rt, request)?;
     }
+    Ok(())
 }

@@ -5,80 +5,77 @@
 #![tactic(auto)]
 
 ghost use Rattle.std.specs.Prelude.{◌<◌};
+ghost use Rattle.rules.specs.Limits.{priorities};
 
+use cases::{ADDRESS, Counted, KEY, all_zeros, with_window};
 use ccmp::MOST_NUMBER;
-use rules::{Answer, Receiver};
+use rules::{Receiver, Refusal, Success};
+use std::{fmt, io};
 
-const KEY: [u8; 16] = [0, 1, 2, 3, 4, 5, 6, 7, 8, 9, 10, 11, 12, 13, 14, 15];
+// What a call answered, printed without its octets, of which there are 27 wherever it is done.
+#[derive(Clone, Copy)]
+struct Answer(Result<Success, Refusal>);
 
-const ADDRESS: [u8; 6] = [2, 0, 0, 0, 0, 1];
-
-fn shows(rt: HostRuntime, text: &[u8], n: u64) {
-    show::text(rt, text);
-    show::number(rt, n);
-}
-
-fn number_of(a: Answer) -> u64 {
-    match a {
-        Answer::Done(_, _, _) => 0,
-        Answer::Refused(x) => x as u64,
+impl Answer {
+    fn number(self) -> u8 {
+        self.0.map_or_else(|refusal| refusal.number(), |_| 0)
     }
 }
 
-fn print_answer(rt: HostRuntime, a: Answer) {
-    match a {
-        Answer::Done(n, p, _) => {
-            shows(rt, b"done ", n);
-            shows(rt, b" ", p as u64);
-        }
-        Answer::Refused(x) => {
-            shows(rt, b"refused ", x as u64);
+impl fmt::Display for Answer {
+    fn fmt<W: fmt::Write>(&self, f: &mut fmt::Formatter<W>) -> fmt::Result {
+        match self.0 {
+            Ok(done) => write!(f, "done {} {}", done.number, done.priority),
+            Err(refusal) => write!(f, "refused {}", refusal.number()),
         }
     }
 }
 
-fn print_window(rt: HostRuntime, greatest: u64, seen: u16) {
-    shows(rt, b" at ", greatest);
-    show::text(rt, b" ");
-    let mut left = seen;
-    let mut i: usize = 0;
-    while i < 16 {
-        show::number(rt, (left % 2) as u64);
-        left = left / 2;
-        i += 1;
+// The greatest number of a window, and which it holds.
+#[derive(Clone, Copy)]
+struct Held {
+    greatest: u64,
+    seen: u16,
+}
+
+impl fmt::Display for Held {
+    fn fmt<W: fmt::Write>(&self, f: &mut fmt::Formatter<W>) -> fmt::Result {
+        write!(f, "at {} {:016b}", self.greatest, self.seen.reverse_bits())
     }
 }
 
-fn print_expected(rt: HostRuntime, expected: u64) {
-    shows(rt, b" | 02: ", expected);
-    show::text(rt, b"\n");
+// A priority is passed as its place, which each contract bounds: a type that holds the bound would have to be made in every case.
+fn window_of(r: Receiver, p: usize) -> Held
+    requires { p < priorities }
+{
+    Held {
+        greatest: r.replay[p],
+        seen: r.seen[p],
+    }
 }
 
-// Whether two records have the same windows, but for priority p.
-fn same_windows(a: Receiver, b: Receiver, p: usize) -> bool {
-    let mut i: usize = 0;
-    while i < 16 {
-        if i != p && (a.replay[i] != b.replay[i] || a.seen[i] != b.seen[i]) {
-            return false;
-        }
-        i += 1;
-    }
-    true
+// No derived equality: a receiver holds a key, and so derives none, and its counts may differ here.
+fn same_windows(a: Receiver, b: Receiver) -> bool {
+    a.replay == b.replay && a.seen == b.seen
+}
+
+// Whether two records have the same windows but for priority p, which no derived equality leaves out.
+fn same_others(a: Receiver, b: Receiver, p: usize) -> bool
+    requires { p < priorities }
+{
+    same_windows(with_window(a, p, b.replay[p], b.seen[p]), b)
 }
 
 // A receiver with key ID 3 and this window in priority p, the others empty.
 fn record(size: u8, p: usize, greatest: u64, seen: u16) -> Receiver
-    requires { p < 16 }
+    requires { p < priorities }
 {
-    let mut r = ccmp::new_receiver(KEY, 3, ADDRESS, size);
-    r.replay[p] = greatest;
-    r.seen[p] = seen;
-    r
+    with_window(ccmp::new_receiver(KEY, 3, ADDRESS, size), p, greatest, seen)
 }
 
 // A frame of priority p, with a header of 26 and a body of 1, sealed under number n. No call seals under 0: it is written over 1.
 fn text_of(p: usize, n: u64) -> [u8; 43]
-    requires { p < 16 }
+    requires { p < priorities }
 {
     let mut frame = [0u8; 27];
     frame[0] = 0x88;
@@ -86,32 +83,13 @@ fn text_of(p: usize, n: u64) -> [u8; 43]
     frame[15] = 1;
     frame[24] = p as u8;
     let mut s = ccmp::new_sender(KEY, 3, ADDRESS);
+    s.last = n.saturating_sub(1);
     let mut text = [0u8; 43];
-    if n != 0 {
-        s.last = n - 1;
-    }
     ccmp::seal(s, &frame, &mut text);
     if n == 0 {
         text[26] = 0;
     }
     text
-}
-
-// What a frame of priority p left of the record.
-fn print_after(rt: HostRuntime, before: Receiver, after: Receiver, p: usize)
-    requires { p < 16 }
-{
-    print_window(rt, after.replay[p], after.seen[p]);
-    if same_windows(before, after, p) {
-        show::text(rt, b", others kept");
-    } else {
-        show::text(rt, b", others MOVED");
-    }
-    let counts = after.counts;
-    shows(rt, b", counts ", counts.format_errors as u64);
-    shows(rt, b" ", counts.replays as u64);
-    shows(rt, b" ", counts.decrypt_errors as u64);
-    shows(rt, b" ", counts.opened as u64);
 }
 
 // Opens the text, of priority p and number n: a case in a line.
@@ -121,231 +99,225 @@ fn opens_text(
     p: usize,
     n: u64,
     text: [u8; 43],
-    expected: u64,
-) -> Receiver
-    requires { p < 16 }
+    expected: u8,
+) -> io::Result<Receiver>
+    requires { p < priorities }
 {
-    shows(rt, b"size ", r.size as u64);
-    shows(rt, b", priority ", p as u64);
-    print_window(rt, r.replay[p], r.seen[p]);
-    shows(rt, b", open ", n);
-    show::text(rt, b": ");
+    print!(rt;
+        "size {}, priority {p} {}, open {n}: ",
+        r.size,
+        window_of(r, p)
+    )?;
     let mut out = [0u8; 27];
     let opened = ccmp::open(r, &text, &mut out);
-    let answer = opened.answer;
+    let answer = Answer(opened.answer);
     let next = opened.receiver;
-    print_answer(rt, answer);
-    show::text(rt, b", then");
-    print_after(rt, r, next, p);
-    print_expected(rt, expected);
-    next
+    let window = window_of(next, p);
+    let others = if same_others(r, next, p) {
+        "kept"
+    } else {
+        "MOVED"
+    };
+    let counts = Counted(next.counts);
+    println!(rt; "{answer}, then {window}, others {others}, {counts} | 02: {expected}")?;
+    Ok(next)
 }
 
-fn opens(rt: HostRuntime, r: Receiver, p: usize, n: u64, expected: u64) -> Receiver
-    requires { p < 16 }
+fn opens(rt: HostRuntime, r: Receiver, p: usize, n: u64, expected: u8) -> io::Result<Receiver>
+    requires { p < priorities }
 {
     opens_text(rt, r, p, n, text_of(p, n), expected)
 }
 
 // The same in priority 6 with the text damaged.
-fn forged(rt: HostRuntime, r: Receiver, n: u64, expected: u64) -> Receiver {
+fn forged(rt: HostRuntime, r: Receiver, n: u64, expected: u8) -> io::Result<Receiver> {
     let mut text = text_of(6, n);
-    text[34] = text[34] ^ 1;
-    show::text(rt, b"forged; ");
+    text[34] ^= 1;
+    print!(rt; "forged; ")?;
     opens_text(rt, r, 6, n, text, expected)
 }
 
 // Number n opened in priority 6 by a record with this window there: marks 1 hold the greatest alone, 0xffff sixteen numbers.
-fn at(rt: HostRuntime, size: u8, greatest: u64, seen: u16, n: u64, expected: u64) {
-    opens(rt, record(size, 6, greatest, seen), 6, n, expected);
+fn at(rt: HostRuntime, size: u8, greatest: u64, seen: u16, n: u64, expected: u8) -> io::Result<()> {
+    opens(rt, record(size, 6, greatest, seen), 6, n, expected)?;
+    Ok(())
 }
 
 // Late numbers and jumps, with 100 the greatest in a window that holds all from 99 to 85 or none of them.
-fn from_100(rt: HostRuntime, size: u8, seen: u16, within: u64) {
-    at(rt, size, 100, seen, 100, 10);
-    at(rt, size, 100, seen, 99, within);
-    at(rt, size, 100, seen, 86, within);
-    at(rt, size, 100, seen, 85, within);
-    at(rt, size, 100, seen, 84, 10);
-    at(rt, size, 100, seen, 101, 0);
-    at(rt, size, 100, seen, 115, 0);
-    at(rt, size, 100, seen, 116, 0);
-    at(rt, size, 100, seen, 117, 0);
-    at(rt, size, 100, seen, MOST_NUMBER, 0);
+fn from_100(rt: HostRuntime, size: u8, seen: u16, within: u8) -> io::Result<()> {
+    at(rt, size, 100, seen, 100, 10)?;
+    at(rt, size, 100, seen, 99, within)?;
+    at(rt, size, 100, seen, 86, within)?;
+    at(rt, size, 100, seen, 85, within)?;
+    at(rt, size, 100, seen, 84, 10)?;
+    at(rt, size, 100, seen, 101, 0)?;
+    at(rt, size, 100, seen, 115, 0)?;
+    at(rt, size, 100, seen, 116, 0)?;
+    at(rt, size, 100, seen, 117, 0)?;
+    at(rt, size, 100, seen, MOST_NUMBER, 0)?;
+    Ok(())
 }
 
-fn opens_zero(rt: HostRuntime, r: Receiver) {
-    let text = text_of(6, 0);
+fn opens_zero(rt: HostRuntime, r: Receiver) -> io::Result<()> {
     let mut out = [0u8; 27];
-    let opened = ccmp::open(r, &text, &mut out);
-    let answer = opened.answer;
-    let next = opened.receiver;
-    shows(rt, b" ", number_of(answer));
-    if !same_windows(r, next, 16) {
-        show::text(rt, b" MOVED");
+    let opened = ccmp::open(r, &text_of(6, 0), &mut out);
+    print!(rt; " {}", Answer(opened.answer).number())?;
+    if !same_windows(r, opened.receiver) {
+        print!(rt; " MOVED")?;
     }
+    Ok(())
 }
 
 // Number 0 at a greatest from 0 to 15.
-fn zeros(rt: HostRuntime, size: u8) {
-    at(rt, size, 0, 0, 0, 10);
-    shows(rt, b"size ", size as u64);
-    show::text(rt, b", at 1 to 15 alone, open 0:");
-    let mut greatest: u64 = 1;
-    while greatest < 16 {
-        opens_zero(rt, record(size, 6, greatest, 1));
-        greatest += 1;
+fn zeros(rt: HostRuntime, size: u8) -> io::Result<()> {
+    at(rt, size, 0, 0, 0, 10)?;
+    print!(rt; "size {size}, at 1 to 15 alone, open 0:")?;
+    for greatest in 1..16 {
+        opens_zero(rt, record(size, 6, greatest, 1))?;
     }
-    print_expected(rt, 10);
+    println!(rt; " | 02: 10")
 }
 
-fn twice(rt: HostRuntime) {
-    let r = opens(rt, record(16, 6, 0, 0), 6, 20, 0);
-    let r = opens(rt, r, 6, 20, 10);
-    let r = opens(rt, r, 6, 18, 0);
-    let r = opens(rt, r, 6, 18, 10);
-    let r = opens(rt, r, 6, 5, 0);
-    let r = opens(rt, r, 6, 21, 0);
-    let r = opens(rt, r, 6, 5, 10);
-    let r = opens(rt, r, 6, 37, 0);
-    let r = opens(rt, r, 6, 21, 10);
-    opens(rt, r, 6, 22, 0);
-    let r = opens(rt, record(1, 6, 0, 0), 6, 20, 0);
-    let r = opens(rt, r, 6, 20, 10);
-    let r = opens(rt, r, 6, 21, 0);
-    opens(rt, r, 6, 20, 10);
+fn twice(rt: HostRuntime) -> io::Result<()> {
+    let r = opens(rt, record(16, 6, 0, 0), 6, 20, 0)?;
+    let r = opens(rt, r, 6, 20, 10)?;
+    let r = opens(rt, r, 6, 18, 0)?;
+    let r = opens(rt, r, 6, 18, 10)?;
+    let r = opens(rt, r, 6, 5, 0)?;
+    let r = opens(rt, r, 6, 21, 0)?;
+    let r = opens(rt, r, 6, 5, 10)?;
+    let r = opens(rt, r, 6, 37, 0)?;
+    let r = opens(rt, r, 6, 21, 10)?;
+    opens(rt, r, 6, 22, 0)?;
+    let r = opens(rt, record(1, 6, 0, 0), 6, 20, 0)?;
+    let r = opens(rt, r, 6, 20, 10)?;
+    let r = opens(rt, r, 6, 21, 0)?;
+    opens(rt, r, 6, 20, 10)?;
+    Ok(())
 }
 
-fn forgeries(rt: HostRuntime) {
-    let r = forged(rt, record(16, 6, 100, 1), 99, 11);
-    let r = forged(rt, r, 101, 11);
-    let r = forged(rt, r, MOST_NUMBER, 11);
-    let r = forged(rt, r, 100, 10);
-    let r = opens(rt, r, 6, 99, 0);
-    opens(rt, r, 6, 101, 0);
-    let r = forged(rt, record(1, 6, 100, 1), 99, 10);
-    let r = forged(rt, r, 101, 11);
-    opens(rt, r, 6, 101, 0);
+fn forgeries(rt: HostRuntime) -> io::Result<()> {
+    let r = forged(rt, record(16, 6, 100, 1), 99, 11)?;
+    let r = forged(rt, r, 101, 11)?;
+    let r = forged(rt, r, MOST_NUMBER, 11)?;
+    let r = forged(rt, r, 100, 10)?;
+    let r = opens(rt, r, 6, 99, 0)?;
+    opens(rt, r, 6, 101, 0)?;
+    let r = forged(rt, record(1, 6, 100, 1), 99, 10)?;
+    let r = forged(rt, r, 101, 11)?;
+    opens(rt, r, 6, 101, 0)?;
+    Ok(())
 }
 
-fn priorities(rt: HostRuntime) {
-    let r = opens(rt, record(16, 6, 100, 0xffff), 7, 100, 0);
-    let r = opens(rt, r, 7, 85, 0);
-    let r = opens(rt, r, 6, 85, 10);
-    opens(rt, r, 0, 1, 0);
-    let r = opens(rt, record(1, 6, 100, 1), 7, 1, 0);
-    let r = opens(rt, r, 6, 100, 10);
-    opens(rt, r, 6, 101, 0);
+fn priorities(rt: HostRuntime) -> io::Result<()> {
+    let r = opens(rt, record(16, 6, 100, 0xffff), 7, 100, 0)?;
+    let r = opens(rt, r, 7, 85, 0)?;
+    let r = opens(rt, r, 6, 85, 10)?;
+    opens(rt, r, 0, 1, 0)?;
+    let r = opens(rt, record(1, 6, 100, 1), 7, 1, 0)?;
+    let r = opens(rt, r, 6, 100, 10)?;
+    opens(rt, r, 6, 101, 0)?;
+    Ok(())
 }
 
 // Number n opened with this window in its priority, and number 1 with the window in priority 15.
-fn stands(rt: HostRuntime, size: u8, greatest: u64, seen: u16, n: u64, own: u64, last: u64) {
-    at(rt, size, greatest, seen, n, own);
-    show::text(rt, b"priority 15");
-    print_window(rt, greatest, seen);
-    show::text(rt, b"; ");
-    opens(rt, record(size, 15, greatest, seen), 6, 1, last);
+fn stands(
+    rt: HostRuntime,
+    size: u8,
+    greatest: u64,
+    seen: u16,
+    n: u64,
+    own: u8,
+    last: u8,
+) -> io::Result<()> {
+    at(rt, size, greatest, seen, n, own)?;
+    print!(rt; "priority 15 {}; ", Held { greatest, seen })?;
+    opens(rt, record(size, 15, greatest, seen), 6, 1, last)?;
+    Ok(())
 }
 
-fn windows(rt: HostRuntime) {
-    stands(rt, 16, 5, 0x0011, 6, 0, 0);
-    stands(rt, 16, 5, 0x0021, 6, 1, 1);
-    stands(rt, 16, 5, 0x0041, 6, 1, 1);
-    stands(rt, 16, 15, 0xffff, 16, 1, 1);
-    stands(rt, 16, 0, 0x0001, 1, 1, 1);
-    stands(rt, 16, 0, 0x8000, 1, 1, 1);
-    stands(rt, 16, 100, 0x0000, 101, 1, 1);
-    stands(rt, 16, 100, 0xfffe, 101, 1, 1);
-    stands(rt, 16, 100, 0x0003, 101, 0, 0);
-    stands(rt, 16, MOST_NUMBER, 0x0001, MOST_NUMBER - 1, 0, 0);
-    stands(rt, 16, MOST_NUMBER + 1, 0x0001, MOST_NUMBER, 1, 1);
-    stands(rt, 1, 0, 0x0001, 1, 1, 1);
-    stands(rt, 1, 100, 0x0000, 101, 1, 1);
-    stands(rt, 1, 100, 0x0003, 101, 1, 1);
-    stands(rt, 1, 100, 0x8001, 101, 1, 1);
-    stands(rt, 1, MOST_NUMBER, 0x0001, MOST_NUMBER, 10, 0);
-    stands(rt, 1, MOST_NUMBER + 1, 0x0001, MOST_NUMBER, 1, 1);
+fn windows(rt: HostRuntime) -> io::Result<()> {
+    stands(rt, 16, 5, 0x0011, 6, 0, 0)?;
+    stands(rt, 16, 5, 0x0021, 6, 1, 1)?;
+    stands(rt, 16, 5, 0x0041, 6, 1, 1)?;
+    stands(rt, 16, 15, 0xffff, 16, 1, 1)?;
+    stands(rt, 16, 0, 0x0001, 1, 1, 1)?;
+    stands(rt, 16, 0, 0x8000, 1, 1, 1)?;
+    stands(rt, 16, 100, 0x0000, 101, 1, 1)?;
+    stands(rt, 16, 100, 0xfffe, 101, 1, 1)?;
+    stands(rt, 16, 100, 0x0003, 101, 0, 0)?;
+    stands(rt, 16, MOST_NUMBER, 0x0001, MOST_NUMBER - 1, 0, 0)?;
+    stands(rt, 16, MOST_NUMBER + 1, 0x0001, MOST_NUMBER, 1, 1)?;
+    stands(rt, 1, 0, 0x0001, 1, 1, 1)?;
+    stands(rt, 1, 100, 0x0000, 101, 1, 1)?;
+    stands(rt, 1, 100, 0x0003, 101, 1, 1)?;
+    stands(rt, 1, 100, 0x8001, 101, 1, 1)?;
+    stands(rt, 1, MOST_NUMBER, 0x0001, MOST_NUMBER, 10, 0)?;
+    stands(rt, 1, MOST_NUMBER + 1, 0x0001, MOST_NUMBER, 1, 1)?;
+    Ok(())
 }
 
-fn sizes(rt: HostRuntime) {
-    at(rt, 0, 100, 1, 101, 1);
-    at(rt, 2, 100, 1, 101, 1);
-    at(rt, 15, 100, 1, 101, 1);
-    at(rt, 17, 100, 1, 101, 1);
-    at(rt, 255, 100, 1, 101, 1);
-}
-
-// Whether key, key ID, peer and windows are zeros; size and counts are printed.
-fn all_zeros(r: Receiver) -> bool {
-    let key = r.key;
-    let peer = r.peer;
-    r.key_id == 0
-        && octets::equal(&key, &[0; 16])
-        && octets::equal(&peer, &[0; 6])
-        && same_windows(r, record(0, 0, 0, 0), 16)
+fn sizes(rt: HostRuntime) -> io::Result<()> {
+    at(rt, 0, 100, 1, 101, 1)?;
+    at(rt, 2, 100, 1, 101, 1)?;
+    at(rt, 15, 100, 1, 101, 1)?;
+    at(rt, 17, 100, 1, 101, 1)?;
+    at(rt, 255, 100, 1, 101, 1)?;
+    Ok(())
 }
 
 // A fresh receiver asked for, and number 1 opened with the record handed back.
-fn fresh(rt: HostRuntime, key_id: u8, size: u8, expected: u64) {
+fn fresh(rt: HostRuntime, key_id: u8, size: u8, expected: u8) -> io::Result<()> {
     let fresh = ccmp::fresh_receiver(KEY, key_id, ADDRESS, size);
-    let answer = fresh.answer;
     let r = fresh.receiver;
-    shows(rt, b"key ID ", key_id as u64);
-    shows(rt, b", size ", size as u64);
-    shows(rt, b": ", number_of(answer));
+    print!(rt;
+        "key ID {key_id}, size {size}: {}",
+        Answer(fresh.answer).number()
+    )?;
     if all_zeros(r) {
-        show::text(rt, b", zeros");
+        print!(rt; ", zeros")?;
     }
-    show::text(rt, b"; ");
-    opens(rt, r, 6, 1, expected);
+    print!(rt; "; ")?;
+    opens(rt, r, 6, 1, expected)?;
+    Ok(())
 }
 
-fn fresh_receivers(rt: HostRuntime) {
-    fresh(rt, 3, 0, 1);
-    fresh(rt, 3, 1, 0);
-    fresh(rt, 3, 2, 1);
-    fresh(rt, 3, 15, 1);
-    fresh(rt, 3, 16, 0);
-    fresh(rt, 3, 17, 1);
-    fresh(rt, 3, 255, 1);
-    fresh(rt, 4, 1, 1);
-    fresh(rt, 4, 2, 1);
-    fresh(rt, 4, 16, 1);
+fn fresh_receivers(rt: HostRuntime) -> io::Result<()> {
+    fresh(rt, 3, 0, 1)?;
+    fresh(rt, 3, 1, 0)?;
+    fresh(rt, 3, 2, 1)?;
+    fresh(rt, 3, 15, 1)?;
+    fresh(rt, 3, 16, 0)?;
+    fresh(rt, 3, 17, 1)?;
+    fresh(rt, 3, 255, 1)?;
+    fresh(rt, 4, 1, 1)?;
+    fresh(rt, 4, 2, 1)?;
+    fresh(rt, 4, 16, 1)?;
+    Ok(())
 }
 
-fn main(rt: HostRuntime) {
-    show::text(
-        rt,
-        b"Late numbers and jumps, where the greatest is held alone and where sixteen are\n",
-    );
-    from_100(rt, 1, 1, 10);
-    from_100(rt, 16, 1, 0);
-    from_100(rt, 16, 0xffff, 10);
-    show::text(rt, b"The same by 2^32 + 1\n");
-    at(rt, 16, 4294967397, 1, 100, 10);
-    at(rt, 16, 100, 0xffff, 4294967397, 0);
-    show::text(rt, b"Number 0\n");
-    zeros(rt, 1);
-    zeros(rt, 16);
-    show::text(
-        rt,
-        b"Numbers that come twice, each line from the record before\n",
-    );
-    twice(rt);
-    show::text(rt, b"Forged frames, each line from the record before\n");
-    forgeries(rt);
-    show::text(
-        rt,
-        b"Other priorities beside 6, each line from the record before\n",
-    );
-    priorities(rt);
-    show::text(
-        rt,
-        b"Windows sound or not, in the frame's priority and in the last\n",
-    );
-    windows(rt);
-    show::text(rt, b"Other sizes in a record\n");
-    sizes(rt);
-    show::text(rt, b"Fresh receivers asked for, and opened with\n");
-    fresh_receivers(rt);
+fn main(rt: HostRuntime) -> io::Result<()> {
+    println!(rt; "Late numbers and jumps, where the greatest is held alone and where sixteen are")?;
+    from_100(rt, 1, 1, 10)?;
+    from_100(rt, 16, 1, 0)?;
+    from_100(rt, 16, 0xffff, 10)?;
+    println!(rt; "The same by 2^32 + 1")?;
+    at(rt, 16, 4294967397, 1, 100, 10)?;
+    at(rt, 16, 100, 0xffff, 4294967397, 0)?;
+    println!(rt; "Number 0")?;
+    zeros(rt, 1)?;
+    zeros(rt, 16)?;
+    println!(rt; "Numbers that come twice, each line from the record before")?;
+    twice(rt)?;
+    println!(rt; "Forged frames, each line from the record before")?;
+    forgeries(rt)?;
+    println!(rt; "Other priorities beside 6, each line from the record before")?;
+    priorities(rt)?;
+    println!(rt; "Windows sound or not, in the frame's priority and in the last")?;
+    windows(rt)?;
+    println!(rt; "Other sizes in a record")?;
+    sizes(rt)?;
+    println!(rt; "Fresh receivers asked for, and opened with")?;
+    fresh_receivers(rt)?;
+    Ok(())
 }
