@@ -80,6 +80,18 @@ fn frame_of(header: [u8; HEADER]) -> [u8; LONG] {
     frame
 }
 
+// Makes a call again and again, and gives how often it was done.
+#[inline(always)]
+fn done_of<F: FnMut() -> bool>(calls: u64, mut call: F) -> u64
+    requires { F.IsAlwaysCallable call }
+{
+    let mut count: u64 = 0;
+    for _ in 0..calls {
+        count = count.wrapping_add(u64::from(call()));
+    }
+    count
+}
+
 // The last camera seals the frame again and again, until air is full.
 fn fill(frame: &[u8], air: &mut [u8])
     requires { length frame.now ≤ 1524 }
@@ -101,100 +113,84 @@ fn next(at: usize, size: usize, air: usize) -> usize
     at
 }
 
+// Opens the frames of air in order, and gives how often that was done. The call is told where a turn starts at the front of air.
+#[inline(always)]
+fn opened_of<F: FnMut(&[u8], bool) -> bool>(calls: u64, size: usize, air: &[u8], mut call: F) -> u64
+    requires frames { size ≤ length air.now }
+    requires callable { F.IsAlwaysCallable call }
+{
+    let mut count: u64 = 0;
+    let mut end = 0;
+    for _ in 0..calls {
+        let at = next(end, size, air.len());
+        end = at + size;
+        count = count.wrapping_add(u64::from(call(&air[at..end], at == 0)));
+    }
+    count
+}
+
 // How many calls were done, and the end of the last frame written.
 fn tell(rt: HostRuntime, count: u64, end: &[u8]) -> io::Result<()> {
     println!(rt; "{count} done, the last ends in {}", Hex(end))
 }
 
-// The box seals a frame for its last camera again and again by this call, which says whether it was done.
-#[inline(always)]
-fn seals<F: FnMut(&[u8], &mut [u8]) -> bool>(
-    rt: HostRuntime,
-    body: Body,
-    calls: u64,
-    mut call: F,
-) -> io::Result<()>
-    requires { F.IsAlwaysCallable call }
-{
+// The box seals a frame for its last camera. Which step a turn runs is picked here, as a closure: with a function for each way, that gave its
+// closure to a common one, a call through the table took 100 ns more.
+fn seals(rt: HostRuntime, by_table: bool, body: Body, calls: u64) -> io::Result<()> {
     let size = body.size();
     let frame = frame_of(*b"\x08\x02\x00\x00\x02cam-\x10\x02box-1\x02box-1\x10\x00");
+    let frame = &frame[0..size];
     let mut out = [0u8; LONG + ADDED];
-    let mut count: u64 = 0;
-    for _ in 0..calls {
-        count = count.wrapping_add(u64::from(call(&frame[0..size], &mut out)));
-    }
+    let count = if by_table {
+        let mut table = full_table(SMALL_WINDOW);
+        done_of(calls, || {
+            let sealed = table::seal(table, 0, frame, &mut out);
+            table = sealed.table;
+            sealed.answer.is_ok()
+        })
+    } else {
+        let mut sender = ccmp::fresh_sender(KEY, 0, BOX).sender;
+        done_of(calls, || {
+            let sealed = ccmp::seal(sender, frame, &mut out);
+            sender = sealed.sender;
+            sealed.answer.is_ok()
+        })
+    };
     let end = size + ADDED;
     tell(rt, count, &out[end - END..end])
 }
 
-fn seals_by_table(rt: HostRuntime, body: Body, calls: u64) -> io::Result<()> {
-    let mut table = full_table(SMALL_WINDOW);
-    seals(rt, body, calls, |frame, out| {
-        let sealed = table::seal(table, 0, frame, out);
-        table = sealed.table;
-        sealed.answer.is_ok()
-    })
-}
-
-fn seals_by_record(rt: HostRuntime, body: Body, calls: u64) -> io::Result<()> {
-    let mut sender = ccmp::fresh_sender(KEY, 0, BOX).sender;
-    seals(rt, body, calls, |frame, out| {
-        let sealed = ccmp::seal(sender, frame, out);
-        sender = sealed.sender;
-        sealed.answer.is_ok()
-    })
-}
-
-// The box opens frames from its last camera in order, each by this call, which is told where a turn starts at the front of air.
-#[inline(always)]
-fn opens<F: FnMut(&[u8], bool, &mut [u8]) -> bool>(
-    rt: HostRuntime,
-    body: Body,
-    calls: u64,
-    mut call: F,
-) -> io::Result<()>
-    requires { F.IsAlwaysCallable call }
-{
+// The box opens frames from its last camera, each turn from a fresh table or record.
+fn opens(rt: HostRuntime, by_table: bool, window: u8, body: Body, calls: u64) -> io::Result<()> {
     let size = body.size();
     let frame = frame_of(*b"\x08\x01\x00\x00\x02box-1\x02cam-\x10\x02box-1\x10\x00");
     let mut air = [0u8; AIR];
     fill(&frame[0..size], &mut air);
     let mut out = [0u8; LONG];
-    let mut count: u64 = 0;
-    let mut end = 0;
-    for _ in 0..calls {
-        let at = next(end, size + ADDED, AIR);
-        end = at + size + ADDED;
-        count = count.wrapping_add(u64::from(call(&air[at..end], at == 0, &mut out)));
-    }
+    let count = if by_table {
+        let fresh = full_table(window);
+        let mut table = fresh;
+        opened_of(calls, size + ADDED, &air, |frame, anew| {
+            if anew {
+                table = fresh;
+            }
+            let opened = table::open(table, frame, &mut out);
+            table = opened.table;
+            opened.answer.is_ok()
+        })
+    } else {
+        let fresh = ccmp::fresh_receiver(KEY, 0, LAST, window).receiver;
+        let mut receiver = fresh;
+        opened_of(calls, size + ADDED, &air, |frame, anew| {
+            if anew {
+                receiver = fresh;
+            }
+            let opened = ccmp::open(receiver, frame, &mut out);
+            receiver = opened.receiver;
+            opened.answer.is_ok()
+        })
+    };
     tell(rt, count, &out[size - END..size])
-}
-
-// Each turn is opened from a fresh table, or a fresh record.
-fn opens_by_table(rt: HostRuntime, window: u8, body: Body, calls: u64) -> io::Result<()> {
-    let fresh = full_table(window);
-    let mut table = fresh;
-    opens(rt, body, calls, |frame, anew, out| {
-        if anew {
-            table = fresh;
-        }
-        let opened = table::open(table, frame, out);
-        table = opened.table;
-        opened.answer.is_ok()
-    })
-}
-
-fn opens_by_record(rt: HostRuntime, window: u8, body: Body, calls: u64) -> io::Result<()> {
-    let fresh = ccmp::fresh_receiver(KEY, 0, LAST, window).receiver;
-    let mut receiver = fresh;
-    opens(rt, body, calls, |frame, anew, out| {
-        if anew {
-            receiver = fresh;
-        }
-        let opened = ccmp::open(receiver, frame, out);
-        receiver = opened.receiver;
-        opened.answer.is_ok()
-    })
 }
 
 // The size of the windows of a request whose first letter is this.
@@ -229,13 +225,10 @@ fn serve(rt: HostRuntime, request: &[u8; REQUEST]) -> io::Result<()> {
     let calls = request[3..9]
         .iter()
         .fold(0u64, |n, x| n.wrapping_mul(10).wrapping_add(digit(*x)));
-    let window = window_of(way);
-    match (request[1], by_table) {
-        (b's', true) => seals_by_table(rt, body, calls),
-        (b's', false) => seals_by_record(rt, body, calls),
-        (_, true) => opens_by_table(rt, window, body, calls),
-        (_, false) => opens_by_record(rt, window, body, calls),
+    if request[1] == b's' {
+        return seals(rt, by_table, body, calls);
     }
+    opens(rt, by_table, window_of(way), body, calls)
 }
 
 // Reads until the room is full, the input ends or a read fails, and gives how many octets were read. It is a `while`, since how far each turn
