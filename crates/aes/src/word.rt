@@ -1,5 +1,5 @@
 // A word of four bytes, the first in the low octet.
-ghost use Rattle.std.specs.Prelude.{◌≡◌, [], ◌∷◌, ◌+◌, ◌*◌, ◌≤◌, length};
+ghost use Rattle.std.specs.Prelude.{◌≡◌, ◌+◌, ◌*◌, ◌≤◌, length};
 ghost use Rattle.aes.specs.Cipher.{word_at};
 ghost use Rattle.aes.specs.KeyExpansion.{rot_word};
 ghost use Rattle.aes.specs.Word.{bytes};

@@ -2,7 +2,7 @@
 ghost use Rattle.std.specs.Prelude.{◌≡◌, ◌≤◌, length};
 ghost use Rattle.rules.specs.Sealing.{seal_next};
 ghost use Rattle.rules.specs.Opening.{open_next};
-ghost use Rattle.book.specs.Limits.{most_answer, most_result, most_frame, word_octets};
+ghost use Rattle.book.specs.Limits.{most_answer, most_frame, word_octets};
 ghost use Rattle.book.specs.Put.{HasRoom, Writes};
 ghost use Rattle.book.specs.Line.{fields};
 ghost use Rattle.book.specs.Book.{room_for, bad_line, seal_line, open_line, begun, says_at};

@@ -4,7 +4,7 @@
 use pieces::MOST_KEPT;
 use rules::{Receiver, Sender};
 
-mod put; // put.rt: text into a room
+mod put; // put.rt: the page that answers are written on
 mod scan; // scan.rt: the search for an octet
 mod hex; // hex.rt: hexadecimal
 mod decimal; // decimal.rt: a number in decimal digits

@@ -1,5 +1,5 @@
 // The forms of a line.
-ghost use Rattle.std.specs.Prelude.{◌≡◌, ◌≤◌, true, length, is_some, IfSome};
+ghost use Rattle.std.specs.Prelude.{◌≡◌, ◌≤◌, true, is_some, IfSome};
 ghost use Rattle.book.specs.Limits.{most_frame};
 ghost use Rattle.book.specs.Line.{fields, is_key_line, asked};
 ghost use Rattle.book.specs.Handed.{request_in, frame_in, KeyTabs, Given};
@@ -52,7 +52,7 @@ pub(crate) struct Keys {
     pub(crate) peer: [u8; ADDRESS_OCTETS],
 }
 
-// What a line after the first asks, where it asks something. Its frame goes into the front of the room.
+// What a line after the first asks, where it asks something. Its frame goes into the front of `frame`.
 pub(crate) fn request_of(line: &[u8], frame: &mut [u8; MOST_FRAME]) -> Option<Request>
     ensures frame_after { request_in result frame.new ≡ asked (fields line.now) }
     ensures result_bound { frame_in result ≤ most_frame }

@@ -1,5 +1,5 @@
-// Text into a room.
-ghost use Rattle.std.specs.Prelude.{◌≡◌, length};
+// The page that answers are written on.
+ghost use Rattle.std.specs.Prelude.{length};
 ghost use Rattle.book.specs.Put.{HasRoom, Writes};
 
 // A room, and the place in it up to which it is written. What is left of it is no fact of the type, since a page fills up: each

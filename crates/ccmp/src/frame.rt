@@ -1,10 +1,10 @@
 // A frame as a call sees it: octets enough for the least header, and then all of its header, looked at once.
 ghost use Rattle.std.specs.Prelude.{◌≡◌, ◌+◌, ◌*◌, ◌<◌, ◌≤◌, ◌++◌, length, take, drop, ◌==◌, slice_index, slice_set, IfOk};
 ghost use Rattle.rules.specs.Limits.{least_header, ht_octets, ccmp_octets};
-ghost use Rattle.rules.specs.Header.{qos, order, header_length, qos_place, muted_control, address2, authenticated, authenticated_length, header_of, wrong_kind};
+ghost use Rattle.rules.specs.Header.{qos, order, qos_place, muted_control, address2, authenticated, authenticated_length, header_of, wrong_kind};
 ghost use Rattle.rules.specs.Nonce.{nonce, number};
 ghost use Rattle.rules.specs.Tests.{header_tests};
-ghost use Rattle.ccmp.specs.Verdict.{Pass, verdict, found};
+ghost use Rattle.ccmp.specs.Verdict.{verdict, found};
 
 use rules::{ADDRESS_OCTETS, Header, Refusal};
 

@@ -4,7 +4,7 @@
 use rules::{Receiver, Refusal, Sender, Success};
 
 mod frame; // frame.rt: a frame and its header
-mod number; // number.rt: the CCMP header
+mod number; // number.rt: the CCMP header written
 mod window; // window.rt: the replay windows
 mod record; // record.rt: the two records
 mod mode; // mode.rt: CCM over AES

@@ -16,7 +16,7 @@ mod number; // number.rt: numbers and strings in a buffer
 mod receiver; // receiver.rt: a receiver's buffer
 mod sender; // sender.rt: a sender's buffer
 
-// What a buffer that is no record is answered.
+// What is answered where a buffer is no record, or a key has not its length.
 const NO_RECORD: u32 = Refusal::Record as u32;
 
 // The calls come in twos, one for each record: kondrivai_c exports each under its own name, with its own clauses of Exports, and

@@ -1,6 +1,6 @@
 // A receiver's buffer, read and written.
-ghost use Rattle.std.specs.Prelude.{◌≡◌, ◌++◌, length, take};
-ghost use Rattle.kondrivai.specs.Layout1.{receiver_size, counts_in, counts_octets, receiver_octets};
+ghost use Rattle.std.specs.Prelude.{◌≡◌, ◌++◌, take};
+ghost use Rattle.kondrivai.specs.Layout1.{counts_in, counts_octets, receiver_octets};
 ghost use Rattle.kondrivai.specs.Held.{held_receiver};
 
 use crate::front::{Kind, is_of, put_front};

@@ -1,6 +1,6 @@
 // A sender's buffer, read and written.
-ghost use Rattle.std.specs.Prelude.{◌≡◌, length};
-ghost use Rattle.kondrivai.specs.Layout1.{sender_size, sender_octets};
+ghost use Rattle.std.specs.Prelude.{◌≡◌};
+ghost use Rattle.kondrivai.specs.Layout1.{sender_octets};
 ghost use Rattle.kondrivai.specs.Held.{held_sender};
 
 use crate::front::{Kind, is_of, put_front};

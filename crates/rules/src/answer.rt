@@ -21,7 +21,7 @@ impl Success {
     };
 }
 
-// The tests by which a call is refused, in the order of the numbers that documents 01 and 02 give them.
+// The tests by which a call is refused, in the order of the numbers that documents 01 and 02 give them. docs/RULES.md says what each tests.
 #[derive(Clone, Copy, PartialEq, Eq, Debug)]
 pub enum Refusal {
     Record = 1,

@@ -25,7 +25,7 @@ pub struct Sender {
     pub key: [u8; KEY_OCTETS],
     pub key_id: u8,
     pub address: [u8; ADDRESS_OCTETS],
-    // The last packet number used, 0 where there is none: the next is one more.
+    // The last packet number used, 0 where there is none. No Option, since the next is one more, also than 0.
     pub last: u64,
 }
 

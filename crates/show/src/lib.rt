@@ -1,7 +1,7 @@
 // Octets in hexadecimal digits, for the programs. Nothing else here is printed by hand.
 #![tactic(auto)]
 
-ghost use Rattle.std.specs.Prelude.{◌≡◌, length, Some};
+ghost use Rattle.std.specs.Prelude.{Some};
 ghost use Rattle.show.specs.Digits.{hexadecimal};
 
 use std::fmt;

@@ -55,7 +55,7 @@ fn new_camera(n: u8, key: [u8; 16]) -> Camera {
     }
 }
 
-// The number of an answer, 0 for done, and the packet number where it names one.
+// The number of an answer, 0 for done, and the packet number where it names one, as this program alone prints them.
 #[derive(Clone, Copy)]
 struct Answer(Result<Success, Refusal>);
 

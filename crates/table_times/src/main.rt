@@ -160,7 +160,7 @@ fn seals(rt: HostRuntime, by_table: bool, body: Body, calls: u64) -> io::Result<
     tell(rt, count, &out[end - END..end])
 }
 
-// The box opens frames from its last camera, each turn from a fresh table or record.
+// The box opens frames from its last camera, each turn from a fresh table or record. The step is picked here, as in seals.
 fn opens(rt: HostRuntime, by_table: bool, window: u8, body: Body, calls: u64) -> io::Result<()> {
     let size = body.size();
     let frame = frame_of(*b"\x08\x01\x00\x00\x02box-1\x02cam-\x10\x02box-1\x10\x00");

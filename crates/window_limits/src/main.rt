@@ -17,6 +17,7 @@ use std::{fmt, io};
 struct Answer(Result<Success, Refusal>);
 
 impl Answer {
+    // An expression, and no function of a crate that each program would have to use for it.
     fn number(self) -> u8 {
         self.0.map_or_else(|refusal| refusal.number(), |_| 0)
     }
