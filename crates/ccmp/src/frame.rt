@@ -117,7 +117,7 @@ impl<'a> Frame<'a> {
             return Err(Refusal::Kind);
         }
         if (octets[1] >> 6) & 1 == wrong {
-            return Err(Refusal::Mark);
+            return Err(Refusal::Protected);
         }
         let header = lent.header();
         if octets.len() < header.length {

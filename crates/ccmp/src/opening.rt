@@ -39,7 +39,7 @@ fn later_tests(r: Receiver, frame: Frame<'_>, room: usize) -> Result<(), Refusal
     }
     let octet = octets[h + 3];
     if octet & 0x20 == 0 {
-        return Err(Refusal::Extended);
+        return Err(Refusal::ExtIv);
     }
     if octet >> 6 != r.key_id {
         return Err(Refusal::KeyId);

@@ -3,17 +3,17 @@ use Rattle.std.specs.Prelude.{ℕ, Result, Ok, Err}
 use Rattle.rules.specs.Answers.{Answer, Done, Refused}
 use Rattle.rules.specs.declared.answer.Success.{Success}
 use Rattle.rules.specs.declared.answer.Refusal.{Refusal}
-use Rattle.rules.specs.declared.answer.Refusal.TheVariants.{Record, Short, Kind, Mark, Body, Room, Address, Extended, KeyId, Replay, Integrity, Spent, Split, Fragment, Entry, Full, KnownKey}
+use Rattle.rules.specs.declared.answer.Refusal.TheVariants.{Record, Short, Kind, Protected, Body, Room, Address, ExtIv, KeyId, Replay, Integrity, Spent, Split, Fragment, Entry, Full, KnownKey}
 
 abbrev pub refusal_number : Refusal → ℕ
 refusal_number Record = 1
 refusal_number Short = 2
 refusal_number Kind = 3
-refusal_number Mark = 4
+refusal_number Protected = 4
 refusal_number Body = 5
 refusal_number Room = 6
 refusal_number Address = 7
-refusal_number Extended = 8
+refusal_number ExtIv = 8
 refusal_number KeyId = 9
 refusal_number Replay = 10
 refusal_number Integrity = 11

@@ -57,7 +57,7 @@ fn open_tests(t: &Table, frame: &[u8], room: usize) -> Result<Header, Refusal>
         return Err(Refusal::Room);
     }
     if frame[header.length + 3] & 0x20 == 0 {
-        return Err(Refusal::Extended);
+        return Err(Refusal::ExtIv);
     }
     Ok(header)
 }

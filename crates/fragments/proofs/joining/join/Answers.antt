@@ -30,7 +30,7 @@ use Rattle.fragments.proofs.joining.join.Goals as goal
 -- A refusal is the answer; where no test applies, what is then held or written is the rules'.
 -- the refusal that drops what is held is the one with number 14
 drops : (x : Refusal) → sameb the_type x R.Fragment ≡ eqb (refusal_number x) 14
-drops x = elim x as (λ y. sameb the_type y R.Fragment ≡ eqb (refusal_number y) 14) [ R.Record ↦ refl | R.Short ↦ refl | R.Kind ↦ refl | R.Mark ↦ refl | R.Body ↦ refl | R.Room ↦ refl | R.Address ↦ refl | R.Extended ↦ refl | R.KeyId ↦ refl | R.Replay ↦ refl | R.Integrity ↦ refl | R.Spent ↦ refl | R.Split ↦ refl | R.Fragment ↦ refl | R.Entry ↦ refl | R.Full ↦ refl | R.KnownKey ↦ refl ]
+drops x = elim x as (λ y. sameb the_type y R.Fragment ≡ eqb (refusal_number y) 14) [ R.Record ↦ refl | R.Short ↦ refl | R.Kind ↦ refl | R.Protected ↦ refl | R.Body ↦ refl | R.Room ↦ refl | R.Address ↦ refl | R.ExtIv ↦ refl | R.KeyId ↦ refl | R.Replay ↦ refl | R.Integrity ↦ refl | R.Spent ↦ refl | R.Split ↦ refl | R.Fragment ↦ refl | R.Entry ↦ refl | R.Full ↦ refl | R.KnownKey ↦ refl ]
 
 itself : (j : Joiner) → length j.held ≡ most_message → Has j j.length j.last
 itself j l = record { octets = l; length_is = refl; last_is = refl }
