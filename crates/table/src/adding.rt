@@ -36,7 +36,9 @@ pub fn add(mut t: Table, x: Pairing) -> Answered
     ensures answer_value { told (answer_of result.answer) ≡ told (add_answer t x) }
     ensures table_value { result.table ≡ add_next t x }
 {
-    let answer = if !sound_table(&t) || !receiver_fits(x.triple.key_id, x.size) {
+    let answer = if !sound_table(&t) {
+        Err(Refusal::Record)
+    } else if !receiver_fits(x.triple.key_id, x.size) {
         Err(Refusal::Record)
     } else if key_place(&t, &x.key).is_some() {
         Err(Refusal::KnownKey)
