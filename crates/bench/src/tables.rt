@@ -1,5 +1,5 @@
-// Adding to a fresh table, and sealing and opening through one with one camera, each twice: by these the stack is measured. A call that is made
-// at two places is a function of its own in the compiled code.
+// Adding to a fresh table, and sealing and opening through one with one camera, each twice: by these the stack is measured. A call that is
+// made at two places is a function of its own in the compiled code.
 ghost use Rattle.std.specs.Prelude.{◌≡◌};
 ghost use Rattle.bench.specs.Numbers.{camera, one_camera, added_twice, sealed_twice, opened_twice, parts};
 

@@ -42,7 +42,8 @@ pub extern "C" fn bench_join(
     out: &mut [u8],
 )
     ensures answer_after { answer.new
-        ≡ parts (join_answer (joiner held.old length.old address.old priority.old sequence.old fragment.old last.old) frame.now number out.old) }
+        ≡ parts (join_answer (joiner held.old length.old address.old priority.old sequence.old fragment.old last.old)
+        frame.now number out.old) }
     ensures last_after { joiner held.new length.new address.new priority.new sequence.new fragment.new last.new
         ≡ join_next (joiner held.old length.old address.old priority.old sequence.old fragment.old last.old) frame.now number out.old }
     ensures out_after { out.new

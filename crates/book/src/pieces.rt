@@ -65,7 +65,8 @@ fn keep(line: &mut [u8; MOST_KEPT], kept: usize, text: &[u8]) -> usize
 // Takes a piece of text, or as much of it as there is room to answer, and writes the answers to the lines that end in it
 // into the front of out. Room for MOST_ANSWER octets is enough to go on. A turn of the loop takes a line, so that it counts no index.
 pub fn feed(r: Reader, piece: &[u8], out: &mut [u8]) -> Fed
-    ensures gave { Gave r.book (held r) (take result.taken piece.now) out.old result.reader.book (held result.reader) out.new result.written }
+    ensures gave { Gave r.book (held r) (take result.taken piece.now) out.old
+        result.reader.book (held result.reader) out.new result.written }
     ensures enough { Enough (length piece.now) result.taken (length out.old) result.written }
 {
     let mut frame = [0u8; MOST_FRAME];

@@ -39,8 +39,8 @@ fn sends(sender: Sender, sequence: u8) -> Sent {
     Sent { air, sender }
 }
 
-// A box opens the frame: the number that it answers, and its record afterwards. The number is an expression here, and no function of a crate
-// that each program would have to use for it.
+// A box opens the frame: the number that it answers, and its record afterwards. The number is an expression here, and no function of a
+// crate that each program would have to use for it.
 fn opens(receiver: Receiver, frame: Sent) -> (u8, Receiver) {
     let mut plain = [0u8; SEALED];
     let opened = ccmp::open(receiver, &frame.air, &mut plain);

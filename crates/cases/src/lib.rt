@@ -159,7 +159,8 @@ pub fn with_counter(r: Receiver, p: usize, n: u64) -> Receiver
 
 // Whether key, key ID, peer and windows are zeros. Of the rest, size and counts, the cases differ.
 pub fn all_zeros(r: Receiver) -> bool
-    ensures { IsTrue result ↔ (r.key_id ≡ 0) × (r.key ≡ replicate 16 0) × (r.peer ≡ replicate 6 0) × (r.replay ≡ replicate 16 0) × (r.seen ≡ replicate 16 0) }
+    ensures { IsTrue result ↔ (r.key_id ≡ 0) × (r.key ≡ replicate 16 0) × (r.peer ≡ replicate 6 0)
+        × (r.replay ≡ replicate 16 0) × (r.seen ≡ replicate 16 0) }
 {
     r.key_id == 0
         && r.key == [0; 16]

@@ -42,7 +42,8 @@ impl Context<'_, '_> {
     // X after B_0, for a message of n octets, and the blocks of the authenticated data.
     pub(crate) fn begin(&self, n: usize) -> State
         requires { n ≤ most_message }
-        ensures { let E = aes128 self.now.cipher in bytes_of result ≡ chain E (E (B₀ code_octets self.now.nonce n)) (blocks (coded self.now.aad.now)) }
+        ensures { let E = aes128 self.now.cipher in
+            bytes_of result ≡ chain E (E (B₀ code_octets self.now.nonce n)) (blocks (coded self.now.aad.now)) }
     {
         let first = self.cipher.encrypt(formatted(0x59, self.nonce, n));
         let data = coded(self.aad);

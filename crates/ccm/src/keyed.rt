@@ -7,8 +7,8 @@ ghost use Rattle.ccm.specs.Limits.{most_data};
 use aes::{State, Two};
 use std::marker::Model;
 
-// AES-128 under one key, which is all that a contract sees of it: the table of products and the schedule. Both are lent, since a struct that
-// held them would be built in one place of the stack and copied into another.
+// AES-128 under one key, which is all that a contract sees of it: the table of products and the schedule. Both are lent, since a struct
+// that held them would be built in one place of the stack and copied into another.
 #[derive(Drop)]
 pub(crate) struct Cipher<'a> {
     products: &'a [u64; 256],

@@ -27,13 +27,14 @@ fn in_limits(a: usize, m: usize) -> bool
 }
 
 impl Context<'_, '_> {
-    // The encrypted message and its code into the front of out. Apart, so that what it puts on the stack and what filling the table does lie
-    // in one place.
+    // The encrypted message and its code into the front of out. Apart, so that what it puts on the stack and what filling the table does
+    // lie in one place.
     #[inline(never)]
     fn put(&self, body: &[u8], out: &mut [u8])
         requires { (length body.now ≤ most_message) × (length body.now + code_octets ≤ length out.old) }
         ensures { let E = aes128 self.now.cipher in let N = self.now.nonce in
-            out.new ≡ (masked E N 1 body.now ++ U E code_octets N self.now.aad.now body.now) ++ drop (length body.now + code_octets) out.old }
+            out.new ≡ (masked E N 1 body.now ++ U E code_octets N self.now.aad.now body.now)
+            ++ drop (length body.now + code_octets) out.old }
     {
         let n = body.len();
         let first = self.start(n);
@@ -41,8 +42,8 @@ impl Context<'_, '_> {
         octets::copy(&last.code()[..CODE_OCTETS], &mut out[n..n + CODE_OCTETS]);
     }
 
-    // Opens the last part of a text, whose first block has the counter i, from where the pass stands: says whether the code is right, and writes
-    // the message if it is. Until then it waits in an array.
+    // Opens the last part of a text, whose first block has the counter i, from where the pass stands: says whether the code is right, and
+    // writes the message if it is. Until then it waits in an array.
     fn open_last(&self, i: usize, from: Place, text: &[u8], out: &mut [u8]) -> bool
         requires { Openable (aes128 self.now.cipher) self.now.nonce i (bytes_of from.key) text.now out.old
             × (length text.now ≤ held + code_octets) }
@@ -79,8 +80,9 @@ impl Context<'_, '_> {
         true
     }
 
-    // The same of a text of any length. Three functions, with one contract: each part of the message waits in a frame of the stack of its own, so
-    // that a short one takes little, and there is no heap. The parameters make no type: what is asked of them is of the cipher and of out too.
+    // The same of a text of any length. Three functions, with one contract: each part of the message waits in a frame of the stack of its
+    // own, so that a short one takes little, and there is no heap. The parameters make no type: what is asked of them is of the cipher and
+    // of out too.
     #[cycle(open_first_open_from)]
     fn open_from(&self, i: usize, from: Place, text: &[u8], out: &mut [u8]) -> bool
         requires { Openable (aes128 self.now.cipher) self.now.nonce i (bytes_of from.key) text.now out.old }

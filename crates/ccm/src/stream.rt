@@ -70,16 +70,17 @@ impl Context<'_, '_> {
     pub(crate) fn start(&self, n: usize) -> Place
         requires { n ≤ most_message }
         ensures key { bytes_of result.key ≡ S (aes128 self.now.cipher) self.now.nonce (counter_at n 0 1 0) }
-        ensures x { let E = aes128 self.now.cipher in bytes_of result.x ≡ chain E (E (B₀ code_octets self.now.nonce n)) (blocks (coded self.now.aad.now)) }
+        ensures x { let E = aes128 self.now.cipher in
+            bytes_of result.x ≡ chain E (E (B₀ code_octets self.now.nonce n)) (blocks (coded self.now.aad.now)) }
     {
         let key = self.key_block(counter(n, 0, 1, 0));
         let x = self.begin(n);
         Place { key, x }
     }
 
-    // One pass over s: it is encrypted or decrypted into out, and X goes through the blocks of the message, s or what s decrypts to. A block of
-    // the chain goes side by side with the next one of the key stream: that and X are handed over, and handed on. The counter of the first
-    // block is i; the one behind the last is 0, that of the code's S_0, unless more of the message comes.
+    // One pass over s: it is encrypted or decrypted into out, and X goes through the blocks of the message, s or what s decrypts to. A
+    // block of the chain goes side by side with the next one of the key stream: that and X are handed over, and handed on. The counter of
+    // the first block is i; the one behind the last is 0, that of the code's S_0, unless more of the message comes.
     pub(crate) fn pass<D: Direction>(
         &self,
         i: usize,

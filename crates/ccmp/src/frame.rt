@@ -211,7 +211,8 @@ impl<'a> Frame<'a> {
     // The header, with another octet 1, into the front of out.
     pub(crate) fn put_header(self, second: u8, out: &mut [u8])
         requires { self.header.length ≤ length out.old }
-        ensures { out.new ≡ slice_set (take self.entry.header.length self.entry.octets.now) 1 second ++ drop self.entry.header.length out.old }
+        ensures { out.new ≡ slice_set (take self.entry.header.length self.entry.octets.now) 1 second
+            ++ drop self.entry.header.length out.old }
     {
         let (header, _) = self.octets.split_at(self.header.length);
         octets::copy(header, out);

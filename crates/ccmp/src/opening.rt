@@ -23,8 +23,10 @@ use rules::{Receiver, Refusal, Success};
 
 // Tests 5 to 10, after those of the record and of the header.
 fn later_tests(r: Receiver, frame: Frame<'_>, room: usize) -> Result<(), Refusal>
-    requires { (sound_receiver r ≡ true) × (Pass frame.header ≡ verdict (header_tests 0 frame.octets.now) (header_of frame.octets.now)) }
-    ensures { found (λ _. frame.entry.header) result ≡ verdict (earlier_tests r frame.entry.octets.now room) (header_of frame.entry.octets.now) }
+    requires { (sound_receiver r ≡ true)
+        × (Pass frame.header ≡ verdict (header_tests 0 frame.octets.now) (header_of frame.octets.now)) }
+    ensures { found (λ _. frame.entry.header) result
+        ≡ verdict (earlier_tests r frame.entry.octets.now room) (header_of frame.entry.octets.now) }
 {
     let h = frame.header.length;
     let octets = frame.octets;
@@ -67,7 +69,8 @@ fn open_tests(r: Receiver, frame: &[u8], room: usize) -> Result<Frame<'_>, Refus
 fn put_opened(r: Receiver, n: u64, frame: Frame<'_>, out: &mut [u8]) -> bool
     requires { (n ≡ number frame.octets.now) × Openable r frame.octets.now (length out.old) }
     ensures value { result ≡ not (is_none (body_of r.key frame.entry.octets.now)) }
-    ensures out_after { out.new ≡ (if result then opened_frame r frame.entry.octets.now ++ drop (length frame.entry.octets.now - added) out.old else out.old) }
+    ensures out_after { out.new
+        ≡ (if result then opened_frame r frame.entry.octets.now ++ drop (length frame.entry.octets.now - added) out.old else out.old) }
 {
     let nonce = frame.nonce(n);
     let data = frame.authenticated_data();

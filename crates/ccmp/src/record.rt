@@ -14,7 +14,8 @@ pub const MOST_NUMBER: u64 = 281474976710655;
 
 pub const MOST_KEY_ID: u8 = 3;
 
-// The counts, each by its number in the rules: `count_of` and `counted` are public and promise of every number, which an enum would exclude.
+// The counts, each by its number in the rules: `count_of` and `counted` are public and promise of every number, which an enum would
+// exclude.
 const NO_COUNT: u8 = 0;
 
 pub const FORMAT_COUNT: u8 = 1;
@@ -163,7 +164,8 @@ pub fn count_of(refusal: u8) -> u8
 
 // The receiver after an opening call that was answered so: done moves the window of the frame's priority.
 pub(crate) fn after_opening(r: Receiver, answer: Result<Success, Refusal>) -> Receiver
-    requires { IfOk answer (λ x. (x.priority < priorities) × (sound_receiver r ≡ true) × (takes (window_of r x.priority) x.number ≡ true)) }
+    requires { IfOk answer (λ x. (x.priority < priorities) × (sound_receiver r ≡ true)
+        × (takes (window_of r x.priority) x.number ≡ true)) }
     ensures { result ≡ receiver_next r (answer_of answer) }
 {
     match answer {

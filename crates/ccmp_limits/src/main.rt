@@ -80,8 +80,8 @@ fn opens(
     Ok(opened.receiver)
 }
 
-// A receiver with key ID 2 and windows of size 1, and n as the replay counter of priority p, which the contract bounds: a type for it would have to
-// be made in each case.
+// A receiver with key ID 2 and windows of size 1, and n as the replay counter of priority p, which the contract bounds: a type for it would
+// have to be made in each case.
 fn receiver(p: usize, n: u64) -> Receiver
     requires { p < priorities }
 {

@@ -76,8 +76,8 @@ impl Pieces<'_> {
         at + self.size.min(self.frame.len() - at)
     }
 
-    // The header of fragment i, that of the frame with MoreFrag and the fragment number set, in the front of an array with room for the longest:
-    // there is no heap.
+    // The header of fragment i, that of the frame with MoreFrag and the fragment number set, in the front of an array with room for the
+    // longest: there is no heap.
     fn head(self, more: bool, i: u8) -> [u8; MOST_HEADER]
         requires { i < most_fragments }
         ensures { let h = self.entry.header.length in take h result ≡ set_fragment (take h self.entry.frame.now) (bit more) i }

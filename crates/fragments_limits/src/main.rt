@@ -12,8 +12,8 @@ use rules::{Fragment, Joiner, MOST_MESSAGE, Receiver, Refusal, Sender, Success};
 use show::Hex;
 use std::{array, io};
 
-// The octets of an array, more than a frame or its fragments sealed can have. Room is passed as a number of them, which each contract bounds,
-// since the call that is given the room makes the array, and tells what stands past the room too.
+// The octets of an array, more than a frame or its fragments sealed can have. Room is passed as a number of them, which each contract
+// bounds, since the call that is given the room makes the array, and tells what stands past the room too.
 const SPACE: usize = MOST_MESSAGE + 896;
 
 // An answer, with the octets written where they are at most so many.

@@ -1,5 +1,5 @@
-// Sealing and opening on a record that lies in a buffer, and the making of such records. docs/LAYOUT.md has the layout. A C host links these as
-// the crate kondrivai_c exports them.
+// Sealing and opening on a record that lies in a buffer, and the making of such records. docs/LAYOUT.md has the layout. A C host links
+// these as the crate kondrivai_c exports them.
 #![tactic(auto)]
 
 ghost use Rattle.std.specs.Prelude.{◌≡◌};

@@ -35,7 +35,8 @@ pub struct Receiver {
     pub key: [u8; KEY_OCTETS],
     pub key_id: u8,
     pub peer: [u8; ADDRESS_OCTETS],
-    // The size of its windows, 1 or 16. A number and no enum: a record of another size is refused, and `RefusedUnsound` of `SizeOne` speaks of it.
+    // The size of its windows, 1 or 16. A number and no enum: a record of another size is refused, and `RefusedUnsound` of `SizeOne` speaks
+    // of it.
     pub size: u8,
     // The replay counter of each priority: the greatest number opened. It and `seen` are two arrays and not one of windows, since theorems
     // (`SizeOne.OldRule`, `windows_kept` of `Demand1`), the layout of a buffer and the export bench_ccmp_open speak of each by itself.
@@ -70,8 +71,8 @@ pub struct Table {
     pub format_errors: u32,
 }
 
-// A sender and a receiver in one, with one key and one key ID. What it holds while it is not in use plays no part: a flag and no Option, since
-// table_limits tries free entries that hold something, and `Tables` speaks of them.
+// A sender and a receiver in one, with one key and one key ID. What it holds while it is not in use plays no part: a flag and no Option,
+// since table_limits tries free entries that hold something, and `Tables` speaks of them.
 #[derive(Clone, Copy)]
 pub struct Entry {
     pub used: bool,
@@ -105,7 +106,8 @@ pub struct Pairing {
 // What a joining call takes and hands back, all zeros where no message is held.
 #[derive(Clone, Copy, PartialEq, Eq)]
 pub struct Joiner {
-    // The message so far, in the first `length` octets: no heap here, and joining answers 1 where `length` is over the most (`sound_joiner`).
+    // The message so far, in the first `length` octets: no heap here, and joining answers 1 where `length` is over the most
+    // (`sound_joiner`).
     pub held: [u8; MOST_MESSAGE],
     pub length: usize,
     // The fragment that came last.

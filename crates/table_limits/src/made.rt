@@ -7,8 +7,8 @@ use cases::{with, with_counter};
 use ccmp::SMALL_WINDOW;
 use rules::{Entry, Pairing, Table, Triple};
 
-// The octets of an array, more than a frame has that is sealed here. Room is passed as a number of them, which each contract bounds, since the
-// call that is given the room makes the array, and tells what stands past the room too.
+// The octets of an array, more than a frame has that is sealed here. Room is passed as a number of them, which each contract bounds, since
+// the call that is given the room makes the array, and tells what stands past the room too.
 pub(crate) const SIZE: usize = 48;
 
 // The station that serves the cameras. Camera i is station 64 + i, for i under 64.

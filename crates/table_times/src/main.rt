@@ -134,8 +134,8 @@ fn tell(rt: HostRuntime, count: u64, end: &[u8]) -> io::Result<()> {
     println!(rt; "{count} done, the last ends in {}", Hex(end))
 }
 
-// The box seals a frame for its last camera. Which step a turn runs is picked here, as a closure: with a function for each way, that gave its
-// closure to a common one, a call through the table took 100 ns more.
+// The box seals a frame for its last camera. Which step a turn runs is picked here, as a closure: with a function for each way, that gave
+// its closure to a common one, a call through the table took 100 ns more.
 fn seals(rt: HostRuntime, by_table: bool, body: Body, calls: u64) -> io::Result<()> {
     let size = body.size();
     let frame = frame_of(*b"\x08\x02\x00\x00\x02cam-\x10\x02box-1\x02box-1\x10\x00");
@@ -231,8 +231,8 @@ fn serve(rt: HostRuntime, request: &[u8; REQUEST]) -> io::Result<()> {
     opens(rt, by_table, window_of(way), body, calls)
 }
 
-// Reads until the room is full, the input ends or a read fails, and gives how many octets were read. It is a `while`, since how far each turn
-// goes is what the read gives.
+// Reads until the room is full, the input ends or a read fails, and gives how many octets were read. It is a `while`, since how far each
+// turn goes is what the read gives.
 fn read_full(rt: HostRuntime, room: &mut [u8]) -> usize
     ensures { result ≤ length room.new }
 {
