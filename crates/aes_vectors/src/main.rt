@@ -3,10 +3,10 @@
 // appendices B and C.1.
 #![tactic(auto)]
 
-use show::Hex;
+use show::{Hex, Output};
 use std::io;
 
-fn print_schedule(rt: HostRuntime, w: [u8; 176]) -> io::Result<()> {
+fn print_schedule(rt: Output, w: [u8; 176]) -> io::Result<()> {
     for (i, word) in w.chunks_exact(4).enumerate() {
         println!(rt; "A.1 w[{i}] {}", Hex(word))?;
     }
@@ -15,7 +15,7 @@ fn print_schedule(rt: HostRuntime, w: [u8; 176]) -> io::Result<()> {
 
 // The block encrypted by itself, and as the first and the second of two.
 fn print_ciphertext(
-    rt: HostRuntime,
+    rt: Output,
     appendix: &str,
     t: &[u64; 256],
     key: [u8; 16],
@@ -31,6 +31,7 @@ fn print_ciphertext(
 }
 
 fn main(rt: HostRuntime) -> io::Result<()> {
+    let rt = Output(rt);
     let mut t = [0u64; 256];
     aes::fill_products(&mut t);
 

@@ -4,6 +4,7 @@
 
 use ccmp::ADDED;
 use rules::{Receiver, Sender};
+use show::Output;
 use std::io;
 
 const SEALED: usize = 33 + ADDED;
@@ -49,7 +50,7 @@ fn opens(receiver: Receiver, frame: Sent) -> (u8, Receiver) {
 }
 
 // Both boxes hear the frame with number n.
-fn hear(rt: HostRuntime, boxes: Boxes, n: u64, frame: Sent) -> io::Result<Boxes> {
+fn hear(rt: Output, boxes: Boxes, n: u64, frame: Sent) -> io::Result<Boxes> {
     let (by_large, large) = opens(boxes.large, frame);
     let (by_small, small) = opens(boxes.small, frame);
     println!(rt; "number {n}: windows of 16 answer {by_large}, windows of 1 answer {by_small}")?;
@@ -57,6 +58,7 @@ fn hear(rt: HostRuntime, boxes: Boxes, n: u64, frame: Sent) -> io::Result<Boxes>
 }
 
 fn main(rt: HostRuntime) -> io::Result<()> {
+    let rt = Output(rt);
     let sender = ccmp::fresh_sender(KEY, 0, CAMERA).sender;
     let one = sends(sender, 0x00);
     let two = sends(one.sender, 0x10);

@@ -2,16 +2,11 @@
 #![tactic(auto)]
 
 use rules::{Refusal, Success};
-use show::Hex;
+use show::{Hex, Output};
 use std::io;
 
 // What a call answered: the octets that it wrote, or the number of the refusal.
-fn print(
-    rt: HostRuntime,
-    label: &str,
-    answer: Result<Success, Refusal>,
-    out: &[u8],
-) -> io::Result<()> {
+fn print(rt: Output, label: &str, answer: Result<Success, Refusal>, out: &[u8]) -> io::Result<()> {
     match answer {
         Ok(done) => {
             let written = Hex(out.get(..done.octets).unwrap_or(&[]));
@@ -22,6 +17,7 @@ fn print(
 }
 
 fn main(rt: HostRuntime) -> io::Result<()> {
+    let rt = Output(rt);
     // Both sides hold one key, under the key ID 0, and the camera's address.
     let key = [7u8; 16];
     let camera = *b"\x02cam-1";

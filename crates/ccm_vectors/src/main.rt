@@ -6,11 +6,11 @@
 
 ghost use Rattle.std.specs.Prelude.{◌≤◌, length};
 
-use show::Hex;
+use show::{Hex, Output};
 use std::io;
 
 fn print_outcome(
-    rt: HostRuntime,
+    rt: Output,
     number: u64,
     label: &str,
     o: Option<usize>,
@@ -26,7 +26,7 @@ fn print_outcome(
 
 // Opens a text.
 fn case(
-    rt: HostRuntime,
+    rt: Output,
     number: u64,
     label: &str,
     key: [u8; 16],
@@ -41,7 +41,7 @@ fn case(
 
 // The vector of a packet: `header` octets of authenticated data, and then the body.
 fn vector(
-    rt: HostRuntime,
+    rt: Output,
     number: u64,
     key: [u8; 16],
     nonce: [u8; 13],
@@ -97,7 +97,7 @@ fn vector(
     )
 }
 
-fn first_vectors(rt: HostRuntime) -> io::Result<()> {
+fn first_vectors(rt: Output) -> io::Result<()> {
     let key: [u8; 16] = [
         0xc0, 0xc1, 0xc2, 0xc3, 0xc4, 0xc5, 0xc6, 0xc7, 0xc8, 0xc9, 0xca, 0xcb, 0xcc, 0xcd, 0xce,
         0xcf,
@@ -133,7 +133,7 @@ fn first_vectors(rt: HostRuntime) -> io::Result<()> {
     vector(rt, 6, key, nonce6, 12, &packet[..33])
 }
 
-fn later_vectors(rt: HostRuntime) -> io::Result<()> {
+fn later_vectors(rt: Output) -> io::Result<()> {
     let key: [u8; 16] = [
         0xd7, 0x82, 0x8d, 0x13, 0xb2, 0xb0, 0xbd, 0xc3, 0x25, 0xa7, 0x62, 0x36, 0xdf, 0x93, 0xcc,
         0x6b,
@@ -195,6 +195,7 @@ fn later_vectors(rt: HostRuntime) -> io::Result<()> {
 }
 
 fn main(rt: HostRuntime) -> io::Result<()> {
+    let rt = Output(rt);
     first_vectors(rt)?;
     later_vectors(rt)
 }

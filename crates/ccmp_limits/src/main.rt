@@ -13,6 +13,7 @@ use cases::{
 };
 use ccmp::{ADDED, MOST_BODY, MOST_NUMBER, SMALL_WINDOW};
 use rules::{Receiver, Refusal, Sender, Success};
+use show::Output;
 use std::{array, io};
 
 // The octets of an array, more than a frame or its text can have. Room is passed as a number of them, which each contract bounds, since the
@@ -31,7 +32,7 @@ fn compared(out: &[u8], k: usize, original: &[u8]) -> &'static str {
 }
 
 // Seals the frame with this room, and prints the rest of the line.
-fn seals(rt: HostRuntime, s: Sender, frame: &[u8], room: usize, expected: u8) -> io::Result<Sender>
+fn seals(rt: Output, s: Sender, frame: &[u8], room: usize, expected: u8) -> io::Result<Sender>
     requires { room ≤ size }
 {
     let mut out = [0xaau8; SIZE];
@@ -44,7 +45,7 @@ fn seals(rt: HostRuntime, s: Sender, frame: &[u8], room: usize, expected: u8) ->
 }
 
 // Seals the frame in two parts, cut at h, and prints the rest of the line.
-fn seals_parts(rt: HostRuntime, s: Sender, frame: &[u8], h: usize, expected: u8) -> io::Result<()>
+fn seals_parts(rt: Output, s: Sender, frame: &[u8], h: usize, expected: u8) -> io::Result<()>
     requires { h ≤ length frame.now }
 {
     let mut out = [0xaau8; SIZE];
@@ -61,7 +62,7 @@ fn seals_parts(rt: HostRuntime, s: Sender, frame: &[u8], h: usize, expected: u8)
 
 // Opens the text with this room, and prints the rest of the line.
 fn opens(
-    rt: HostRuntime,
+    rt: Output,
     r: Receiver,
     text: &[u8],
     room: usize,
@@ -108,13 +109,7 @@ fn text_of(frame: &[u8], last: u64) -> [u8; SIZE] {
 }
 
 // A body of this many octets sealed, after a header of h.
-fn seal_size(
-    rt: HostRuntime,
-    frame: &[u8; SIZE],
-    h: usize,
-    body: usize,
-    expected: u8,
-) -> io::Result<()>
+fn seal_size(rt: Output, frame: &[u8; SIZE], h: usize, body: usize, expected: u8) -> io::Result<()>
     requires { (h ≤ most_header) × (body ≤ most_body + 1) }
 {
     print!(rt; "header {h}, seal body {body}: ")?;
@@ -124,7 +119,7 @@ fn seal_size(
 
 // A text opened that has this many octets more than its header of h.
 fn open_size(
-    rt: HostRuntime,
+    rt: Output,
     text: &[u8; SIZE],
     h: usize,
     more: usize,
@@ -146,7 +141,7 @@ fn open_size(
 }
 
 // The limits of the body, for one length of header.
-fn sizes(rt: HostRuntime, low: u8, high: u8, h: usize) -> io::Result<()>
+fn sizes(rt: Output, low: u8, high: u8, h: usize) -> io::Result<()>
     requires { h ≤ most_header }
 {
     let frame = plain(low, high);
@@ -164,7 +159,7 @@ fn sizes(rt: HostRuntime, low: u8, high: u8, h: usize) -> io::Result<()>
 }
 
 // The frame sealed with this room.
-fn seal_in(rt: HostRuntime, frame: &[u8], room: usize, expected: u8) -> io::Result<()>
+fn seal_in(rt: Output, frame: &[u8], room: usize, expected: u8) -> io::Result<()>
     requires { (length frame.now ≤ most_header + most_body) × (room ≤ size) }
 {
     print!(rt; "seal to {} octets, room {room}: ", frame.len() + ADDED)?;
@@ -173,7 +168,7 @@ fn seal_in(rt: HostRuntime, frame: &[u8], room: usize, expected: u8) -> io::Resu
 }
 
 // Room for one octet too few, and for just enough.
-fn rooms(rt: HostRuntime) -> io::Result<()> {
+fn rooms(rt: Output) -> io::Result<()> {
     let frame = plain(0x08, 0x00);
     let text = text_of(front(&frame, 25), 0);
     let r = receiver(0, 0);
@@ -191,7 +186,7 @@ fn rooms(rt: HostRuntime) -> io::Result<()> {
 }
 
 // Frames with HT Control, which is counted and not authenticated.
-fn ht_control(rt: HostRuntime) -> io::Result<()> {
+fn ht_control(rt: Output) -> io::Result<()> {
     let frame = plain(0x88, 0x80);
     let text = text_of(front(&frame, 31), 0);
     let s = sender(0);
@@ -221,7 +216,7 @@ fn ht_control(rt: HostRuntime) -> io::Result<()> {
 }
 
 // Order turned over on the way: with QoS Control the CCMP header is then looked for at another place.
-fn orders(rt: HostRuntime) -> io::Result<()> {
+fn orders(rt: Output) -> io::Result<()> {
     let r = receiver(0, 0);
     let cleared = with(text_of(front(&plain(0x88, 0x80), 31), 0), 1, 0x40);
     print!(rt; "open with Order cleared: ")?;
@@ -280,7 +275,7 @@ fn orders(rt: HostRuntime) -> io::Result<()> {
 }
 
 // A frame of 32 octets of header and 17 of body, lent in two parts that are cut there and elsewhere.
-fn parts(rt: HostRuntime) -> io::Result<()> {
+fn parts(rt: Output) -> io::Result<()> {
     let frame = plain(0x88, 0x03);
     let s = sender(0);
     print!(rt; "seal 49 octets, cut after the header of 32: ")?;
@@ -303,7 +298,7 @@ fn parts(rt: HostRuntime) -> io::Result<()> {
 }
 
 // The last packet number of all.
-fn last_number(rt: HostRuntime) -> io::Result<()> {
+fn last_number(rt: Output) -> io::Result<()> {
     let frame = plain(0x08, 0x00);
     print!(rt; "seal after 2^48 - 2: ")?;
     let spent = seals(rt, sender(MOST_NUMBER - 1), front(&frame, 25), SIZE, 0)?;
@@ -317,7 +312,7 @@ fn last_number(rt: HostRuntime) -> io::Result<()> {
     Ok(())
 }
 
-fn replays(rt: HostRuntime) -> io::Result<()> {
+fn replays(rt: Output) -> io::Result<()> {
     let frame = plain(0x88, 0x00);
     let other = plain(0x08, 0x00);
     let r = receiver(6, 7);
@@ -357,7 +352,7 @@ fn replays(rt: HostRuntime) -> io::Result<()> {
 }
 
 // Each answer of sealing. One sender goes from call to call.
-fn seal_answers(rt: HostRuntime) -> io::Result<()> {
+fn seal_answers(rt: Output) -> io::Result<()> {
     let frame = plain(0x08, 0x00);
     let s = ccmp::fresh_sender(KEY, 2, ADDRESS).sender;
     print!(rt; "seal 23 octets: ")?;
@@ -382,7 +377,7 @@ fn seal_answers(rt: HostRuntime) -> io::Result<()> {
     Ok(())
 }
 
-fn seal_answers_later(rt: HostRuntime, s: Sender, frame: &[u8; SIZE]) -> io::Result<()> {
+fn seal_answers_later(rt: Output, s: Sender, frame: &[u8; SIZE]) -> io::Result<()> {
     print!(rt; "seal: ")?;
     let mut s = seals(rt, s, front(frame, 25), SIZE, 0)?;
     print!(rt; "seal again: ")?;
@@ -397,7 +392,7 @@ fn seal_answers_later(rt: HostRuntime, s: Sender, frame: &[u8; SIZE]) -> io::Res
 }
 
 // Each answer of opening. One receiver goes from call to call.
-fn open_answers(rt: HostRuntime) -> io::Result<()> {
+fn open_answers(rt: Output) -> io::Result<()> {
     let frame = plain(0x08, 0x00);
     let text = text_of(front(&frame, 25), 0);
     let r = ccmp::fresh_receiver(KEY, 2, ADDRESS, SMALL_WINDOW).receiver;
@@ -424,7 +419,7 @@ fn open_answers(rt: HostRuntime) -> io::Result<()> {
 }
 
 fn open_answers_later(
-    rt: HostRuntime,
+    rt: Output,
     r: Receiver,
     frame: &[u8; SIZE],
     text: &[u8; SIZE],
@@ -468,7 +463,7 @@ fn open_answers_later(
 }
 
 // Records at the limits of soundness and past them.
-fn senders(rt: HostRuntime) -> io::Result<()> {
+fn senders(rt: Output) -> io::Result<()> {
     let frame = plain(0x08, 0x00);
     let mut s = sender(0);
     s.key_id = 3;
@@ -482,7 +477,7 @@ fn senders(rt: HostRuntime) -> io::Result<()> {
     Ok(())
 }
 
-fn receivers(rt: HostRuntime) -> io::Result<()> {
+fn receivers(rt: Output) -> io::Result<()> {
     let frame = plain(0x08, 0x00);
     let text = text_of(front(&frame, 25), 0);
     let mut r = receiver(0, 0);
@@ -519,7 +514,7 @@ fn zero_receiver(r: Receiver) -> bool {
 }
 
 fn print_fresh(
-    rt: HostRuntime,
+    rt: Output,
     record: &str,
     asked: u8,
     answer: Result<Success, Refusal>,
@@ -533,7 +528,7 @@ fn print_fresh(
     print!(rt; ", key ID {key_id}")
 }
 
-fn fresh_sender(rt: HostRuntime, key_id: u8, expected: u8) -> io::Result<()> {
+fn fresh_sender(rt: Output, key_id: u8, expected: u8) -> io::Result<()> {
     let fresh = ccmp::fresh_sender(KEY, key_id, ADDRESS);
     let s = fresh.sender;
     print_fresh(
@@ -547,7 +542,7 @@ fn fresh_sender(rt: HostRuntime, key_id: u8, expected: u8) -> io::Result<()> {
     println!(rt; ", last {} | 01: {expected}", s.last)
 }
 
-fn fresh_receiver(rt: HostRuntime, key_id: u8, expected: u8) -> io::Result<()> {
+fn fresh_receiver(rt: Output, key_id: u8, expected: u8) -> io::Result<()> {
     let fresh = ccmp::fresh_receiver(KEY, key_id, ADDRESS, SMALL_WINDOW);
     let r = fresh.receiver;
     print_fresh(
@@ -563,7 +558,7 @@ fn fresh_receiver(rt: HostRuntime, key_id: u8, expected: u8) -> io::Result<()> {
 }
 
 // Where two tests apply, the first decides.
-fn seal_order(rt: HostRuntime) -> io::Result<()> {
+fn seal_order(rt: Output) -> io::Result<()> {
     let frame = plain(0x08, 0x00);
     let s = sender(0);
     let mut unsound = s;
@@ -593,7 +588,7 @@ fn seal_order(rt: HostRuntime) -> io::Result<()> {
     Ok(())
 }
 
-fn open_order(rt: HostRuntime) -> io::Result<()> {
+fn open_order(rt: Output) -> io::Result<()> {
     let frame = plain(0x08, 0x00);
     let r = receiver(0, 0);
     let mut unsound = r;
@@ -612,7 +607,7 @@ fn open_order(rt: HostRuntime) -> io::Result<()> {
     Ok(())
 }
 
-fn open_order_later(rt: HostRuntime, r: Receiver, frame: &[u8; SIZE]) -> io::Result<()> {
+fn open_order_later(rt: Output, r: Receiver, frame: &[u8; SIZE]) -> io::Result<()> {
     let text = text_of(front(frame, 25), 0);
     let other = with(text, 15, 9);
     print!(rt; "open, a body of 0, no room: ")?;
@@ -639,7 +634,7 @@ fn open_order_later(rt: HostRuntime, r: Receiver, frame: &[u8; SIZE]) -> io::Res
 }
 
 // Each count goes back to 0.
-fn counts(rt: HostRuntime) -> io::Result<()> {
+fn counts(rt: Output) -> io::Result<()> {
     let frame = plain(0x08, 0x00);
     let text = text_of(front(&frame, 25), 0);
     let mut r = receiver(0, 0);
@@ -658,6 +653,7 @@ fn counts(rt: HostRuntime) -> io::Result<()> {
 }
 
 fn main(rt: HostRuntime) -> io::Result<()> {
+    let rt = Output(rt);
     sizes(rt, 0x08, 0x00, 24)?;
     sizes(rt, 0x88, 0x00, 26)?;
     sizes(rt, 0x08, 0x03, 30)?;

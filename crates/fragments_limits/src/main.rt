@@ -9,7 +9,7 @@ ghost use Rattle.fragments_limits.specs.Space.{space};
 use cases::{ADDRESS, Answer, KEY, front, rest, sender, with};
 use ccmp::{ADDED, MOST_NUMBER};
 use rules::{Fragment, Joiner, MOST_MESSAGE, Receiver, Refusal, Sender, Success};
-use show::Hex;
+use show::{Hex, Output};
 use std::{array, io};
 
 // The octets of an array, more than a frame or its fragments sealed can have. Room is passed as a number of them, which each contract
@@ -17,7 +17,7 @@ use std::{array, io};
 const SPACE: usize = MOST_MESSAGE + 896;
 
 // An answer, with the octets written where they are at most so many.
-fn print_answer(rt: HostRuntime, answer: Answer, out: &[u8], most: usize) -> io::Result<()> {
+fn print_answer(rt: Output, answer: Answer, out: &[u8], most: usize) -> io::Result<()> {
     print!(rt; "{answer}")?;
     let k = answer.written();
     if k == 0 || most < k {
@@ -30,7 +30,7 @@ fn print_answer(rt: HostRuntime, answer: Answer, out: &[u8], most: usize) -> io:
 }
 
 // Ends a line: whether the output is as it was from octet k on, and what is due.
-fn print_end(rt: HostRuntime, out: &[u8], k: usize, expected: u8) -> io::Result<()> {
+fn print_end(rt: Output, out: &[u8], k: usize, expected: u8) -> io::Result<()> {
     println!(rt; ", {} | 02: {expected}", rest(out, k))
 }
 
@@ -98,7 +98,7 @@ fn begun(i: u8) -> Joiner {
 
 // Splits the frame with this room, and prints the rest of the line.
 fn splits(
-    rt: HostRuntime,
+    rt: Output,
     s: Sender,
     size: usize,
     frame: &[u8],
@@ -124,13 +124,7 @@ struct After {
 }
 
 // Opens a sealed fragment, prints octets 1 and 22 of what was opened, and joins it.
-fn hop(
-    rt: HostRuntime,
-    r: Receiver,
-    j: Joiner,
-    sealed: &[u8],
-    out: &mut [u8],
-) -> io::Result<After> {
+fn hop(rt: Output, r: Receiver, j: Joiner, sealed: &[u8], out: &mut [u8]) -> io::Result<After> {
     let mut frame = [0u8; SPACE];
     let opened = ccmp::open(r, sealed, &mut frame);
     let receiver = opened.receiver;
@@ -154,7 +148,7 @@ fn hop(
 }
 
 // Opens and joins the sealed fragments in air, of `step` octets each but for the last, and gives what became of that.
-fn carried(rt: HostRuntime, air: &[u8], step: usize, out: &mut [u8]) -> io::Result<Option<After>>
+fn carried(rt: Output, air: &[u8], step: usize, out: &mut [u8]) -> io::Result<Option<After>>
     requires { 0 < step }
 {
     let mut r = ccmp::new_receiver(KEY, 2, ADDRESS, ccmp::SMALL_WINDOW);
@@ -170,7 +164,7 @@ fn carried(rt: HostRuntime, air: &[u8], step: usize, out: &mut [u8]) -> io::Resu
 }
 
 // What joining the last fragment gave.
-fn print_joined(rt: HostRuntime, after: After, out: &[u8], message: &[u8]) -> io::Result<()> {
+fn print_joined(rt: Output, after: After, out: &[u8], message: &[u8]) -> io::Result<()> {
     let answer = Answer(after.answer);
     print!(rt; ", {answer}")?;
     if let Some(written) = out.get(..answer.written()) {
@@ -187,7 +181,7 @@ fn print_joined(rt: HostRuntime, after: After, out: &[u8], message: &[u8]) -> io
 // Splits a frame that has this message, opens and joins its fragments, of `step` octets each but for the last, and prints the
 // rest of the line.
 fn crosses(
-    rt: HostRuntime,
+    rt: Output,
     frame: &[u8],
     message: &[u8],
     size: usize,
@@ -216,7 +210,7 @@ fn crosses(
 // Splits a message of m octets after a header of h with this Frame Control. Octets 1 and 22 are shown as they are given and,
 // of each fragment, as they are opened.
 fn travels(
-    rt: HostRuntime,
+    rt: Output,
     low: u8,
     high: u8,
     h: usize,
@@ -244,7 +238,7 @@ fn travels(
 
 // Joins the fragment with this room, and prints the rest of the line.
 fn joins(
-    rt: HostRuntime,
+    rt: Output,
     j: Joiner,
     frame: &[u8],
     number: u64,
@@ -270,7 +264,7 @@ fn joins(
 }
 
 // Sizes, messages and headers.
-fn sizes(rt: HostRuntime) -> io::Result<()> {
+fn sizes(rt: Output) -> io::Result<()> {
     travels(rt, 0x08, 0x00, 24, 17, 14, 13)?;
     travels(rt, 0x08, 0x00, 24, 17, 15, 13)?;
     travels(rt, 0x08, 0x00, 24, 17, 16, 0)?;
@@ -300,7 +294,7 @@ fn sizes(rt: HostRuntime) -> io::Result<()> {
 }
 
 // Numbers that just suffice or of which one is missing, room likewise, and sizes that no frame has.
-fn split_limits(rt: HostRuntime) -> io::Result<()> {
+fn split_limits(rt: Output) -> io::Result<()> {
     let frame = plain(0x08, 0x00);
     let s = sender(0);
     print!(rt; "split in 3, last number 2^48 - 4: ")?;
@@ -355,7 +349,7 @@ fn split_limits(rt: HostRuntime) -> io::Result<()> {
 }
 
 // Each answer of splitting. One sender goes from call to call.
-fn split_answers(rt: HostRuntime) -> io::Result<()> {
+fn split_answers(rt: Output) -> io::Result<()> {
     let frame = plain(0x08, 0x00);
     print!(rt; "split 23 octets: ")?;
     let s = splits(rt, sender(5), 16, front(&frame, 23), SPACE, 2)?;
@@ -393,7 +387,7 @@ fn split_answers(rt: HostRuntime) -> io::Result<()> {
 }
 
 // Where two tests of splitting apply, the first decides.
-fn split_order(rt: HostRuntime) -> io::Result<()> {
+fn split_order(rt: Output) -> io::Result<()> {
     let frame = plain(0x08, 0x00);
     let s = sender(0);
     let mut unsound = s;
@@ -431,7 +425,7 @@ fn split_order(rt: HostRuntime) -> io::Result<()> {
 }
 
 // Each answer of joining. One joiner goes from call to call, and holds octets at each refusal but 14.
-fn join_answers(rt: HostRuntime) -> io::Result<()> {
+fn join_answers(rt: Output) -> io::Result<()> {
     let first = fragment(0, 0x04);
     let last = fragment(2, 0x00);
     print!(rt; "join fragment 0: ")?;
@@ -471,7 +465,7 @@ fn join_answers(rt: HostRuntime) -> io::Result<()> {
 
 // Gives fragment 0, which starts anew, to the joiner with these fields of its last fragment.
 fn joins_after(
-    rt: HostRuntime,
+    rt: Output,
     j: Joiner,
     priority: u8,
     sequence: u16,
@@ -498,7 +492,7 @@ fn joins_after(
 }
 
 // Joiners at the limits of soundness and past them, that hold octets, then nothing.
-fn joiners(rt: HostRuntime) -> io::Result<()> {
+fn joiners(rt: Output) -> io::Result<()> {
     let j = begun(0);
     let mut long = j;
     long.length = 2304;
@@ -532,7 +526,7 @@ fn joiners(rt: HostRuntime) -> io::Result<()> {
 }
 
 // Fragments that don't continue what is held, two octets of fragment 0 under the number 7, and some that do.
-fn astray(rt: HostRuntime) -> io::Result<()> {
+fn astray(rt: Output) -> io::Result<()> {
     let j = begun(0);
     let next = fragment(1, 0x00);
     print!(rt; "fragment 2 under 9: ")?;
@@ -573,7 +567,7 @@ fn astray(rt: HostRuntime) -> io::Result<()> {
 }
 
 // Fragment 0 starts anew, and after fragment 15 nothing else goes on.
-fn anew(rt: HostRuntime) -> io::Result<()> {
+fn anew(rt: Output) -> io::Result<()> {
     let first = fragment(0, 0x04);
     let next = fragment(1, 0x04);
     print!(rt; "fragment 0 of 300 octets: ")?;
@@ -612,7 +606,7 @@ fn anew(rt: HostRuntime) -> io::Result<()> {
 }
 
 // The longest message, one that is too long, and finished messages without room.
-fn totals(rt: HostRuntime) -> io::Result<()> {
+fn totals(rt: Output) -> io::Result<()> {
     let last = fragment(1, 0x00);
     print!(rt; "fragment 0 of 2296 octets: ")?;
     let j = joins(rt, empty(), front(&fragment(0, 0x04), 2320), 7, 0, 0)?;
@@ -642,7 +636,7 @@ fn totals(rt: HostRuntime) -> io::Result<()> {
 }
 
 // Where two tests of joining apply, the first decides.
-fn join_order(rt: HostRuntime) -> io::Result<()> {
+fn join_order(rt: Output) -> io::Result<()> {
     let first = fragment(0, 0x04);
     let j = begun(0);
     let mut long = j;
@@ -677,6 +671,7 @@ fn join_order(rt: HostRuntime) -> io::Result<()> {
 }
 
 fn main(rt: HostRuntime) -> io::Result<()> {
+    let rt = Output(rt);
     sizes(rt)?;
     split_limits(rt)?;
     split_answers(rt)?;

@@ -4,6 +4,7 @@
 
 use ccmp::ADDED;
 use rules::{Joiner, Receiver, Refusal, Sender, Success};
+use show::Output;
 use std::io;
 use std::ops::Range;
 
@@ -43,7 +44,7 @@ fn taken(header: [u8; HEADER], slope: u8) -> [u8; FRAME] {
 // The camera splits the picture of a frame and seals the fragments, one after another, under its next numbers. The call hands
 // back the sender for the next one.
 fn sends(
-    rt: HostRuntime,
+    rt: Output,
     name: &str,
     sender: Sender,
     frame: [u8; FRAME],
@@ -62,12 +63,7 @@ fn sends(
 }
 
 // What a call of the box answered, where that is worth telling: a joiner writes nothing before the last fragment.
-fn tell(
-    rt: HostRuntime,
-    name: &str,
-    call: &str,
-    answer: Result<Success, Refusal>,
-) -> io::Result<()> {
+fn tell(rt: Output, name: &str, call: &str, answer: Result<Success, Refusal>) -> io::Result<()> {
     match answer {
         Ok(done) if done.octets == 0 => Ok(()),
         Ok(done) => println!(rt;
@@ -81,7 +77,7 @@ fn tell(
 // The box opens a fragment of a camera and joins what it opened, under the number that opening named. It keeps the records
 // that the calls hand back. What opening refuses, it doesn't join.
 fn hears(
-    rt: HostRuntime,
+    rt: Output,
     name: &str,
     kept: Kept,
     sealed: &[u8],
@@ -105,7 +101,7 @@ fn hears(
 
 // The box hears these of the fragments in air, in order.
 fn hears_some(
-    rt: HostRuntime,
+    rt: Output,
     name: &str,
     kept: Kept,
     air: &[u8],
@@ -128,12 +124,7 @@ fn meets(key: [u8; 16], camera: [u8; 6]) -> Kept {
 }
 
 // Whether the picture that the box has is that of the frame.
-fn compare(
-    rt: HostRuntime,
-    name: &str,
-    picture: [u8; PICTURE],
-    frame: [u8; FRAME],
-) -> io::Result<()> {
+fn compare(rt: Output, name: &str, picture: [u8; PICTURE], frame: [u8; FRAME]) -> io::Result<()> {
     if picture[..] == frame[HEADER..] {
         return println!(rt; "{name}: it is the picture that was taken");
     }
@@ -141,7 +132,7 @@ fn compare(
 }
 
 // Two cameras, each with a key of its own, send a picture each. The box keeps a receiver and a joiner for each.
-fn two_cameras(rt: HostRuntime) -> io::Result<()> {
+fn two_cameras(rt: Output) -> io::Result<()> {
     let sender = ccmp::fresh_sender([7; 16], 0, *b"\x02ridge").sender;
     let ridge_frame = taken(*b"\x08\x01\x00\x00router\x02ridgerouter\x10\x00", 7);
     let mut ridge_air = [0u8; AIR];
@@ -174,7 +165,7 @@ fn two_cameras(rt: HostRuntime) -> io::Result<()> {
 }
 
 // The fragments of one camera arrive over bad air.
-fn bad_air(rt: HostRuntime) -> io::Result<()> {
+fn bad_air(rt: Output) -> io::Result<()> {
     let sender = ccmp::fresh_sender([9; 16], 0, *b"\x02scree").sender;
     let kept = meets([9; 16], *b"\x02scree");
     let mut air = [0u8; AIR];
@@ -204,6 +195,7 @@ fn bad_air(rt: HostRuntime) -> io::Result<()> {
 }
 
 fn main(rt: HostRuntime) -> io::Result<()> {
+    let rt = Output(rt);
     two_cameras(rt)?;
     bad_air(rt)?;
     Ok(())

@@ -1,10 +1,10 @@
-// Octets in hexadecimal digits, for the programs. Nothing else here is printed by hand.
+// What the programs print: octets in hexadecimal digits, and the standard output that they print on.
 #![tactic(auto)]
 
-ghost use Rattle.std.specs.Prelude.{Some};
+ghost use Rattle.std.specs.Prelude.{Some, IsOk};
 ghost use Rattle.show.specs.Digits.{hexadecimal};
 
-use std::fmt;
+use std::{fmt, io};
 
 // Octets in hexadecimal digits.
 #[derive(Clone, Copy)]
@@ -17,6 +17,33 @@ impl fmt::Display for Hex<'_> {
         for &x in self.0 {
             write!(f, "{x:02x}")?;
         }
+        Ok(())
+    }
+}
+
+// The standard output, on which a write that fails is let go: the program goes on, and ends as where none failed.
+#[derive(Clone, Copy)]
+pub struct Output(pub HostRuntime);
+
+impl Print for Output {
+    fn print<D: fmt::Display + Drop>(&self, value: D) -> io::Result<()>
+        ensures { IsOk result }
+    {
+        let _ = self.0.print(value);
+        Ok(())
+    }
+
+    fn println<D: fmt::Display + Drop>(&self, value: D) -> io::Result<()>
+        ensures { IsOk result }
+    {
+        let _ = self.0.println(value);
+        Ok(())
+    }
+
+    fn write_all(&self, bytes: &[u8]) -> io::Result<()>
+        ensures { IsOk result }
+    {
+        let _ = self.0.write_all(bytes);
         Ok(())
     }
 }

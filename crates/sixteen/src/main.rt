@@ -4,6 +4,7 @@
 
 use ccmp::ADDED;
 use rules::{ENTRIES, Pairing, Receiver, Refusal, Sender, Success, Table, Triple};
+use show::Output;
 use std::{fmt, io};
 use table::Answered;
 
@@ -70,13 +71,13 @@ impl fmt::Display for Answer {
 }
 
 // The table after a call for camera n, whose answer is printed.
-fn after(rt: HostRuntime, n: u8, call: &str, answered: Answered) -> io::Result<Table> {
+fn after(rt: Output, n: u8, call: &str, answered: Answered) -> io::Result<Table> {
     println!(rt; "camera {n} {call}: answer {}", Answer(answered.answer))?;
     Ok(answered.table)
 }
 
 // The box adds cameras 1 to 16. A real key is agreed with its camera; no two entries may have the same.
-fn adds_sixteen(rt: HostRuntime) -> io::Result<Site> {
+fn adds_sixteen(rt: Output) -> io::Result<Site> {
     let mut table = table::new_table();
     let mut cameras = [new_camera(0, [0; 16]); ENTRIES];
     print!(rt; "cameras 1 to 16 enter: answers")?;
@@ -101,12 +102,12 @@ fn sends(camera: Camera, n: u8, air: &mut [u8]) -> Camera {
 }
 
 // The box opens what it hears. The table finds the entry; n is only for the line that is printed.
-fn hears(rt: HostRuntime, table: Table, n: u8, call: &str, air: &[u8]) -> io::Result<Table> {
+fn hears(rt: Output, table: Table, n: u8, call: &str, air: &[u8]) -> io::Result<Table> {
     let mut frame = [0u8; FRAME];
     after(rt, n, call, table::open(table, air, &mut frame))
 }
 
-fn each_sends(rt: HostRuntime, site: Site) -> io::Result<Site> {
+fn each_sends(rt: Output, site: Site) -> io::Result<Site> {
     let Site {
         mut table,
         mut cameras,
@@ -120,7 +121,7 @@ fn each_sends(rt: HostRuntime, site: Site) -> io::Result<Site> {
 }
 
 // A frame of camera 5 arrives twice, and then half of it.
-fn bad_air(rt: HostRuntime, table: Table, fifth: Camera) -> io::Result<Table> {
+fn bad_air(rt: Output, table: Table, fifth: Camera) -> io::Result<Table> {
     let mut air = [0u8; SEALED];
     sends(fifth, 5, &mut air);
     let table = hears(rt, table, 5, "sends", &air)?;
@@ -129,7 +130,7 @@ fn bad_air(rt: HostRuntime, table: Table, fifth: Camera) -> io::Result<Table> {
 }
 
 // The box seals a frame for camera 3, which opens it with its own receiver.
-fn sends_back(rt: HostRuntime, table: Table, third: Camera) -> io::Result<Table> {
+fn sends_back(rt: Output, table: Table, third: Camera) -> io::Result<Table> {
     let frame: &[u8] = b"\x08\x02\x00\x00\x02cam-\x03\x02box-1\x02box-1\x10\x00look left";
     let mut air = [0u8; SEALED];
     let sealed = table::seal(table, 0, frame, &mut air);
@@ -141,7 +142,7 @@ fn sends_back(rt: HostRuntime, table: Table, third: Camera) -> io::Result<Table>
 }
 
 // Camera 9 gets a new key, while a frame under the old one is still on its way.
-fn changes_key(rt: HostRuntime, table: Table, ninth: Camera) -> io::Result<Table> {
+fn changes_key(rt: Output, table: Table, ninth: Camera) -> io::Result<Table> {
     let mut late = [0u8; SEALED];
     sends(ninth, 9, &mut late);
     let key = [109u8; 16];
@@ -154,7 +155,7 @@ fn changes_key(rt: HostRuntime, table: Table, ninth: Camera) -> io::Result<Table
 }
 
 // Camera 17 finds no room until camera 12 is removed.
-fn makes_room(rt: HostRuntime, table: Table, twelfth: Camera) -> io::Result<Table> {
+fn makes_room(rt: Output, table: Table, twelfth: Camera) -> io::Result<Table> {
     let key = [17u8; 16];
     let table = after(rt, 17, "enters", table::add(table, pairing(17, key)))?;
     let seventeenth = new_camera(17, key);
@@ -172,7 +173,7 @@ fn makes_room(rt: HostRuntime, table: Table, twelfth: Camera) -> io::Result<Tabl
 }
 
 // The table counts what is no frame, before it looks for an entry; an entry counts the rest. That of camera 5 is the fifth.
-fn tell_counts(rt: HostRuntime, table: Table) -> io::Result<()> {
+fn tell_counts(rt: Output, table: Table) -> io::Result<()> {
     let counts = table.entries[4].receiver.counts;
     println!(rt; "the table: format errors {}", table.format_errors)?;
     println!(rt;
@@ -182,6 +183,7 @@ fn tell_counts(rt: HostRuntime, table: Table) -> io::Result<()> {
 }
 
 fn main(rt: HostRuntime) -> io::Result<()> {
+    let rt = Output(rt);
     let site = adds_sixteen(rt)?;
     let site = each_sends(rt, site)?;
     let Site { table, cameras } = each_sends(rt, site)?;

@@ -12,6 +12,7 @@ ghost use Rattle.std.specs.Prelude.{◌+◌, ◌≤◌, length};
 use ccmp::MOST_BODY;
 use octets::octets_at;
 use rules::{Counts, ENTRIES, Entry, Pairing, Receiver, Refusal, Success, Table, Triple};
+use show::Output;
 use std::io::Read;
 use std::{array, io};
 use table::Answered;
@@ -95,20 +96,20 @@ fn octets_of(e: Entry) -> [u8; ENTRY] {
     b
 }
 
-fn write_table(rt: HostRuntime, t: Table) -> io::Result<()> {
+fn write_table(out: Output, t: Table) -> io::Result<()> {
     for entry in t.entries {
-        rt.write_all(&octets_of(entry))?;
+        out.write_all(&octets_of(entry))?;
     }
-    rt.write_all(&t.format_errors.to_le_bytes())
+    out.write_all(&t.format_errors.to_le_bytes())
 }
 
 // The numbers of bench's `parts_of`, written out, since a program that stood on bench would bring all that bench calls.
-fn write_answer(rt: HostRuntime, answer: Result<Success, Refusal>) -> io::Result<()> {
+fn write_answer(out: Output, answer: Result<Success, Refusal>) -> io::Result<()> {
     let numbers = match answer {
         Ok(done) => [0, done.number, u64::from(done.priority), done.octets as u64],
         Err(refusal) => [u64::from(refusal.number()), 0, 0, 0],
     };
-    rt.write_all(numbers.map(|n| n.to_le_bytes()).as_flattened())
+    out.write_all(numbers.map(|n| n.to_le_bytes()).as_flattened())
 }
 
 // The call of a request, on its table.
@@ -151,9 +152,10 @@ fn serve(
     let _ = rt.stdin().read_exact(frame);
     let _ = rt.stdin().read_exact(room);
     let done = called(request, frame, room);
-    write_answer(rt, done.answer)?;
-    write_table(rt, done.table)?;
-    rt.write_all(room)
+    let out = Output(rt);
+    write_answer(out, done.answer)?;
+    write_table(out, done.table)?;
+    out.write_all(room)
 }
 
 // Whether there was a request.

@@ -6,7 +6,7 @@ use crate::made::{BOX, SIZE, camera, heard, plain, triple};
 use cases::{Answer, Counted, Outcome, front, rest};
 use ccmp::SMALL_WINDOW;
 use rules::{Entry, Pairing, Receiver, Table, Triple};
-use show::Hex;
+use show::{Hex, Output};
 use std::io;
 use table::Answered;
 
@@ -31,7 +31,7 @@ fn same_numbers(a: Entry, b: Entry) -> bool {
     a.last == b.last && r.counts == s.counts && r.replay == s.replay && r.seen == s.seen
 }
 
-fn print_pairing(rt: HostRuntime, e: Entry) -> io::Result<()> {
+fn print_pairing(rt: Output, e: Entry) -> io::Result<()> {
     let r = e.receiver;
     print!(rt; " own {} peer {}", Hex(&e.own), Hex(&r.peer))?;
     print!(rt; " key ID {} key {}", r.key_id, Hex(&r.key))?;
@@ -48,7 +48,7 @@ fn print_pairing(rt: HostRuntime, e: Entry) -> io::Result<()> {
 }
 
 // The numbers below the greatest that a window holds.
-fn print_window(rt: HostRuntime, greatest: u64, bits: u16) -> io::Result<()> {
+fn print_window(rt: Output, greatest: u64, bits: u16) -> io::Result<()> {
     for i in 1..16u16 {
         if (bits >> i) % 2 == 1 && u64::from(i) <= greatest {
             print!(rt; " and {}", greatest - u64::from(i))?;
@@ -58,7 +58,7 @@ fn print_window(rt: HostRuntime, greatest: u64, bits: u16) -> io::Result<()> {
 }
 
 // The replay counters that are not 0, each with what its window holds more.
-fn print_counters(rt: HostRuntime, r: Receiver) -> io::Result<()> {
+fn print_counters(rt: Output, r: Receiver) -> io::Result<()> {
     for (p, (greatest, bits)) in r.replay.iter().zip(&r.seen).enumerate() {
         if *greatest != 0 {
             print!(rt; " counter {p} at {greatest}")?;
@@ -68,14 +68,14 @@ fn print_counters(rt: HostRuntime, r: Receiver) -> io::Result<()> {
     Ok(())
 }
 
-fn print_numbers(rt: HostRuntime, e: Entry) -> io::Result<()> {
+fn print_numbers(rt: Output, e: Entry) -> io::Result<()> {
     print!(rt; " last {}", e.last)?;
     print_counters(rt, e.receiver)?;
     print!(rt; " {}", Counted(e.receiver.counts))
 }
 
 // What stands now at place i, if it differs; whether it does.
-fn print_entry(rt: HostRuntime, i: usize, before: Entry, after: Entry) -> io::Result<bool> {
+fn print_entry(rt: Output, i: usize, before: Entry, after: Entry) -> io::Result<bool> {
     let paired = same_pairing(before, after);
     if paired && same_numbers(before, after) {
         return Ok(false);
@@ -93,7 +93,7 @@ fn print_entry(rt: HostRuntime, i: usize, before: Entry, after: Entry) -> io::Re
 }
 
 // All that differs in two tables.
-fn print_changes(rt: HostRuntime, before: Table, after: Table) -> io::Result<()> {
+fn print_changes(rt: Output, before: Table, after: Table) -> io::Result<()> {
     let mut kept = before.format_errors == after.format_errors;
     for (i, (a, b)) in before.entries.iter().zip(&after.entries).enumerate() {
         if print_entry(rt, i, *a, *b)? {
@@ -110,7 +110,7 @@ fn print_changes(rt: HostRuntime, before: Table, after: Table) -> io::Result<()>
 }
 
 // What an opened frame has after its first 24 octets.
-fn print_opened(rt: HostRuntime, out: &[u8], k: usize) -> io::Result<()> {
+fn print_opened(rt: Output, out: &[u8], k: usize) -> io::Result<()> {
     match out.get(24..k) {
         Some(body) => print!(rt; " {}", Hex(body)),
         None => Ok(()),
@@ -118,7 +118,7 @@ fn print_opened(rt: HostRuntime, out: &[u8], k: usize) -> io::Result<()> {
 }
 
 // The rest of a line on adding or removing.
-fn print_changed(rt: HostRuntime, t: Table, r: Answered, expected: u8) -> io::Result<Table> {
+fn print_changed(rt: Output, t: Table, r: Answered, expected: u8) -> io::Result<Table> {
     print!(rt; "{}", Outcome(r.answer))?;
     print_changes(rt, t, r.table)?;
     println!(rt; " | 02: {expected}")?;
@@ -126,7 +126,7 @@ fn print_changed(rt: HostRuntime, t: Table, r: Answered, expected: u8) -> io::Re
 }
 
 pub(crate) fn adds(
-    rt: HostRuntime,
+    rt: Output,
     what: &str,
     t: Table,
     x: Pairing,
@@ -137,7 +137,7 @@ pub(crate) fn adds(
 }
 
 pub(crate) fn removes(
-    rt: HostRuntime,
+    rt: Output,
     what: &str,
     t: Table,
     x: Triple,
@@ -148,25 +148,19 @@ pub(crate) fn removes(
 }
 
 // Adds camera i with key n.
-pub(crate) fn adds_camera(
-    rt: HostRuntime,
-    t: Table,
-    i: u8,
-    n: u8,
-    expected: u8,
-) -> io::Result<Table> {
+pub(crate) fn adds_camera(rt: Output, t: Table, i: u8, n: u8, expected: u8) -> io::Result<Table> {
     print!(rt; "add camera {i} with key {n}: ")?;
     print_changed(rt, t, table::add(t, camera(i, n)), expected)
 }
 
-pub(crate) fn removes_camera(rt: HostRuntime, t: Table, i: u8, expected: u8) -> io::Result<Table> {
+pub(crate) fn removes_camera(rt: Output, t: Table, i: u8, expected: u8) -> io::Result<Table> {
     print!(rt; "remove camera {i}: ")?;
     print_changed(rt, t, table::remove(t, triple(BOX, 64 | i, 2)), expected)
 }
 
 // Seals a frame with this room. The line has begun.
 pub(crate) fn seals_lent(
-    rt: HostRuntime,
+    rt: Output,
     t: Table,
     key_id: u8,
     frame: &[u8],
@@ -186,7 +180,7 @@ pub(crate) fn seals_lent(
 
 // The same, with what begins the line.
 pub(crate) fn seals_part(
-    rt: HostRuntime,
+    rt: Output,
     what: &str,
     t: Table,
     key_id: u8,
@@ -202,7 +196,7 @@ pub(crate) fn seals_part(
 
 // Seals a frame of 26 octets with key ID 2 and more room than it needs.
 pub(crate) fn seals(
-    rt: HostRuntime,
+    rt: Output,
     what: &str,
     t: Table,
     frame: [u8; SIZE],
@@ -212,7 +206,7 @@ pub(crate) fn seals(
 }
 
 // Seals the frame to camera i.
-pub(crate) fn seals_to(rt: HostRuntime, t: Table, i: u8, expected: u8) -> io::Result<Table> {
+pub(crate) fn seals_to(rt: Output, t: Table, i: u8, expected: u8) -> io::Result<Table> {
     let frame = plain(64 | i, BOX);
     print!(rt; "seal to camera {i}: ")?;
     seals_lent(rt, t, 2, &frame[0..26], SIZE, expected)
@@ -220,7 +214,7 @@ pub(crate) fn seals_to(rt: HostRuntime, t: Table, i: u8, expected: u8) -> io::Re
 
 // Opens a text with this room. The line has begun. Apart from seals_lent, since it makes another call and prints the body too.
 pub(crate) fn opens_lent(
-    rt: HostRuntime,
+    rt: Output,
     t: Table,
     text: &[u8],
     room: usize,
@@ -240,7 +234,7 @@ pub(crate) fn opens_lent(
 
 // The same, with what begins the line.
 pub(crate) fn opens_part(
-    rt: HostRuntime,
+    rt: Output,
     what: &str,
     t: Table,
     text: &[u8],
@@ -255,7 +249,7 @@ pub(crate) fn opens_part(
 
 // Opens a text of 42 octets with more room than it needs.
 pub(crate) fn opens(
-    rt: HostRuntime,
+    rt: Output,
     what: &str,
     t: Table,
     text: [u8; SIZE],
@@ -266,7 +260,7 @@ pub(crate) fn opens(
 
 // Opens what camera i seals under this number, with key n.
 pub(crate) fn opens_from(
-    rt: HostRuntime,
+    rt: Output,
     t: Table,
     i: u8,
     n: u8,
@@ -293,6 +287,6 @@ fn sum(t: Table) -> u32 {
 }
 
 // The sum of the counts, beside the number of openings that were answered neither 1, 6 nor 15.
-pub(crate) fn print_sum(rt: HostRuntime, t: Table, expected: u8) -> io::Result<()> {
+pub(crate) fn print_sum(rt: Output, t: Table, expected: u8) -> io::Result<()> {
     println!(rt; "counts together: {} | 02: {expected}", sum(t))
 }

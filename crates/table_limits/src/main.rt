@@ -17,13 +17,13 @@ use made::{
     sized, text_of, triple,
 };
 use rules::{Entry, Pairing, Table, Triple};
-use show::Hex;
+use show::{Hex, Output};
 use std::io;
 
 mod made; // made.rt: what the cases are made of
 mod line; // line.rt: a case in a line
 
-fn adding(rt: HostRuntime) -> io::Result<()> {
+fn adding(rt: Output) -> io::Result<()> {
     println!(rt; "Adding, to a fresh table")?;
     let t = table::new_table();
     let t = adds_camera(rt, t, 0, 0, 0)?;
@@ -49,7 +49,7 @@ fn adding(rt: HostRuntime) -> io::Result<()> {
 }
 
 // Names that differ in one octet are two.
-fn one_octet(rt: HostRuntime) -> io::Result<()> {
+fn one_octet(rt: Output) -> io::Result<()> {
     println!(rt; "Names that differ from those of camera 0 in one octet")?;
     let t = cameras(1);
     let mut x = camera(1, 0);
@@ -73,7 +73,7 @@ fn one_octet(rt: HostRuntime) -> io::Result<()> {
 }
 
 // The zeros of a free entry are no triple and no key.
-fn zeros(rt: HostRuntime) -> io::Result<()> {
+fn zeros(rt: Output) -> io::Result<()> {
     println!(rt; "Addresses, key ID and key of zeros, and a fresh table")?;
     let none = Triple {
         own: [0; 6],
@@ -101,7 +101,7 @@ fn zeros(rt: HostRuntime) -> io::Result<()> {
     Ok(())
 }
 
-fn removing(rt: HostRuntime) -> io::Result<()> {
+fn removing(rt: Output) -> io::Result<()> {
     println!(rt; "Removing, from cameras 0 to 3, and adding again")?;
     let t = cameras(4);
     let t = removes_camera(rt, t, 4, 15)?;
@@ -123,7 +123,7 @@ fn removing(rt: HostRuntime) -> io::Result<()> {
     Ok(())
 }
 
-fn full(rt: HostRuntime) -> io::Result<()> {
+fn full(rt: Output) -> io::Result<()> {
     println!(rt; "A full table, from cameras 0 to 14")?;
     let t = cameras(15);
     let t = adds_camera(rt, t, 15, 15, 0)?;
@@ -143,7 +143,7 @@ fn full(rt: HostRuntime) -> io::Result<()> {
 }
 
 // A sealed frame in full, opened by a table of camera 0, whose own address is the box's peer.
-fn both_ways(rt: HostRuntime) -> io::Result<()> {
+fn both_ways(rt: Output) -> io::Result<()> {
     println!(rt; "From the box to camera 0")?;
     let frame = plain(64, BOX);
     let mut text = [0u8; SIZE];
@@ -161,7 +161,7 @@ fn both_ways(rt: HostRuntime) -> io::Result<()> {
     Ok(())
 }
 
-fn seal_answers(rt: HostRuntime) -> io::Result<()> {
+fn seal_answers(rt: Output) -> io::Result<()> {
     println!(rt; "Sealing, with cameras 0 and 1")?;
     let frame = plain(64, BOX);
     let cut = with(with(frame, 0, 0x88), 1, 0x03);
@@ -178,7 +178,7 @@ fn seal_answers(rt: HostRuntime) -> io::Result<()> {
     Ok(())
 }
 
-fn seal_searches(rt: HostRuntime, t: Table, frame: [u8; SIZE]) -> io::Result<()> {
+fn seal_searches(rt: Output, t: Table, frame: [u8; SIZE]) -> io::Result<()> {
     let t = seals_part(rt, "with key ID 1", t, 1, front(&frame, 26), SIZE, 15)?;
     let t = seals_part(rt, "with key ID 4", t, 4, front(&frame, 26), SIZE, 15)?;
     let t = seals_part(rt, "with key ID 6", t, 6, front(&frame, 26), SIZE, 15)?;
@@ -209,7 +209,7 @@ fn seal_searches(rt: HostRuntime, t: Table, frame: [u8; SIZE]) -> io::Result<()>
     Ok(())
 }
 
-fn open_answers(rt: HostRuntime) -> io::Result<()> {
+fn open_answers(rt: Output) -> io::Result<()> {
     println!(rt; "Opening, with cameras 0 and 1")?;
     let text = heard(0, 0, 1);
     let cut = with(with(text, 0, 0x88), 1, 0x43);
@@ -229,7 +229,7 @@ fn open_answers(rt: HostRuntime) -> io::Result<()> {
     Ok(())
 }
 
-fn open_searches(rt: HostRuntime, t: Table, text: [u8; SIZE]) -> io::Result<Table> {
+fn open_searches(rt: Output, t: Table, text: [u8; SIZE]) -> io::Result<Table> {
     let t = opens(rt, "with key ID 1", t, with(text, 27, 0x60), 15)?;
     let t = opens_from(rt, t, 2, 2, 1, 15)?;
     let t = opens(rt, "to station 2", t, with(text, 9, 2), 15)?;
@@ -251,7 +251,7 @@ fn open_searches(rt: HostRuntime, t: Table, text: [u8; SIZE]) -> io::Result<Tabl
     )
 }
 
-fn open_found(rt: HostRuntime, t: Table, text: [u8; SIZE]) -> io::Result<Table> {
+fn open_found(rt: Output, t: Table, text: [u8; SIZE]) -> io::Result<Table> {
     let t = opens(rt, "number 0", t, with(text, 24, 0), 10)?;
     let t = opens(rt, "under another number", t, with(text, 24, 2), 11)?;
     let t = opens(rt, "with the text damaged", t, damaged(text, 32), 11)?;
@@ -263,12 +263,12 @@ fn open_found(rt: HostRuntime, t: Table, text: [u8; SIZE]) -> io::Result<Table> 
     opens_from(rt, t, 1, 1, 1, 0)
 }
 
-fn print_body(rt: HostRuntime, word: &str, n: usize) -> io::Result<()> {
+fn print_body(rt: Output, word: &str, n: usize) -> io::Result<()> {
     print!(rt; "{word} {n} octets after the header: ")
 }
 
 // Bodies at their limits. Those that pass are then found to have too little room.
-fn bodies(rt: HostRuntime) -> io::Result<()> {
+fn bodies(rt: Output) -> io::Result<()> {
     let mut frame = [0u8; 24 + MOST_BODY + ADDED + 1];
     frame[0] = 0x08;
     let t = cameras(1);
@@ -286,7 +286,7 @@ fn bodies(rt: HostRuntime) -> io::Result<()> {
 }
 
 // Where two tests apply, the first decides.
-fn change_order(rt: HostRuntime) -> io::Result<()> {
+fn change_order(rt: Output) -> io::Result<()> {
     println!(rt; "Two tests at once, with 16 cameras")?;
     let t = cameras(16);
     let unsound = put(t, 15, entry(camera(15, 15), MOST_NUMBER + 1, 0, 0));
@@ -306,7 +306,7 @@ fn change_order(rt: HostRuntime) -> io::Result<()> {
     Ok(())
 }
 
-fn seal_order(rt: HostRuntime) -> io::Result<()> {
+fn seal_order(rt: Output) -> io::Result<()> {
     println!(rt; "Two tests at once, with cameras 0 and 1")?;
     let frame = plain(64, BOX);
     let empty = with(frame, 0, 0x48);
@@ -360,7 +360,7 @@ fn seal_order(rt: HostRuntime) -> io::Result<()> {
     Ok(())
 }
 
-fn open_order(rt: HostRuntime) -> io::Result<()> {
+fn open_order(rt: Output) -> io::Result<()> {
     let text = heard(0, 0, 1);
     let empty = with(text, 0, 0x48);
     let cut = with(with(text, 0, 0x88), 1, 0x43);
@@ -391,7 +391,7 @@ fn open_order(rt: HostRuntime) -> io::Result<()> {
     Ok(())
 }
 
-fn open_order_later(rt: HostRuntime, t: Table, text: [u8; SIZE]) -> io::Result<()> {
+fn open_order_later(rt: Output, t: Table, text: [u8; SIZE]) -> io::Result<()> {
     let other = heard(2, 2, 1);
     let short = with(text, 27, 0x80);
     opens_part(rt, "with room 25, ExtIV 0", t, front(&short, 42), 25, 6)?;
@@ -405,7 +405,7 @@ fn open_order_later(rt: HostRuntime, t: Table, text: [u8; SIZE]) -> io::Result<(
     Ok(())
 }
 
-fn flags(rt: HostRuntime) -> io::Result<()> {
+fn flags(rt: Output) -> io::Result<()> {
     println!(rt; "Flags")?;
     let t = table::new_table();
     let t = adds(rt, "camera 0", t, flagged(camera(0, 0), true, false), 0)?;
@@ -426,7 +426,7 @@ fn flags(rt: HostRuntime) -> io::Result<()> {
 }
 
 // Another test that applies beside a flag that is off.
-fn flags_order(rt: HostRuntime, t: Table) -> io::Result<()> {
+fn flags_order(rt: Output, t: Table) -> io::Result<()> {
     let text = heard(0, 0, 1);
     let frame = plain(65, BOX);
     let x = flagged(camera(1, 1), false, true);
@@ -449,7 +449,7 @@ fn counted_out() -> Table {
     t
 }
 
-fn counts(rt: HostRuntime) -> io::Result<()> {
+fn counts(rt: Output) -> io::Result<()> {
     println!(rt; "Each count 4294967295 before each call")?;
     let text = heard(0, 0, 1);
     let t = counted_out();
@@ -468,7 +468,7 @@ fn counts(rt: HostRuntime) -> io::Result<()> {
     Ok(())
 }
 
-fn restarts(rt: HostRuntime) -> io::Result<()> {
+fn restarts(rt: Output) -> io::Result<()> {
     println!(rt; "Camera 1 restarted between cameras 0 and 2")?;
     let t = cameras(3);
     let t = put(t, 0, entry(camera(0, 0), 4, 6, 3));
@@ -486,7 +486,7 @@ fn restarts(rt: HostRuntime) -> io::Result<()> {
 }
 
 // Each entry has its own numbers, counters and counts.
-fn in_turns(rt: HostRuntime) -> io::Result<()> {
+fn in_turns(rt: Output) -> io::Result<()> {
     println!(rt; "Cameras 0 and 1 in turns")?;
     let t = cameras(2);
     let t = seals_to(rt, t, 0, 0)?;
@@ -508,7 +508,7 @@ fn in_turns(rt: HostRuntime) -> io::Result<()> {
 }
 
 // Sizes that are no size are refused before a key that is in use, and after the key ID.
-fn sizes(rt: HostRuntime) -> io::Result<()> {
+fn sizes(rt: Output) -> io::Result<()> {
     println!(rt; "Cameras with windows of another size than 1 and 16, camera 0 there")?;
     let t = cameras(1);
     let t = adds(rt, "with size 0", t, sized(camera(1, 1), 0), 1)?;
@@ -541,7 +541,7 @@ fn sizes(rt: HostRuntime) -> io::Result<()> {
 }
 
 // Late frames through an entry with windows of 16, beside one with windows of 1, and after a restart.
-fn windows(rt: HostRuntime) -> io::Result<()> {
+fn windows(rt: Output) -> io::Result<()> {
     println!(rt; "Camera 0 with windows of 1, and camera 1 with windows of 16")?;
     let t = cameras(1);
     let t = adds(rt, "camera 1 with size 16", t, sized(camera(1, 1), 16), 0)?;
@@ -563,7 +563,7 @@ fn windows(rt: HostRuntime) -> io::Result<()> {
 }
 
 // Entries whose triples differ in one part.
-fn alike(rt: HostRuntime) -> io::Result<()> {
+fn alike(rt: Output) -> io::Result<()> {
     println!(rt; "Camera 0 with key IDs 2 and 3, and for station 2")?;
     let frame = plain(64, BOX);
     let t = cameras(1);
@@ -584,7 +584,7 @@ fn alike(rt: HostRuntime) -> io::Result<()> {
 }
 
 // The four calls for camera 1 on a table of 16 cameras with e at place i. If that is sound, each answers 0.
-fn four(rt: HostRuntime, what: &str, i: usize, e: Entry, expected: u8) -> io::Result<()>
+fn four(rt: Output, what: &str, i: usize, e: Entry, expected: u8) -> io::Result<()>
     requires { i < table_entries }
 {
     let t = put(cameras(16), i, e);
@@ -597,14 +597,14 @@ fn four(rt: HostRuntime, what: &str, i: usize, e: Entry, expected: u8) -> io::Re
 }
 
 // At the first place and at the last.
-fn ends(rt: HostRuntime, what: &str, e: Entry, expected: u8) -> io::Result<()> {
+fn ends(rt: Output, what: &str, e: Entry, expected: u8) -> io::Result<()> {
     four(rt, what, 0, e, expected)?;
     four(rt, what, 15, e, expected)?;
     Ok(())
 }
 
 // Entries at the limits of soundness and past them, or with what another has.
-fn in_use(rt: HostRuntime) -> io::Result<()> {
+fn in_use(rt: Output) -> io::Result<()> {
     let x = camera(30, 30);
     let most = entry(pairing(BOX, 94, 3, 30), MOST_NUMBER, 15, MOST_NUMBER);
     ends(rt, "In use with key ID 3 and numbers of 2^48 - 1", most, 0)?;
@@ -659,7 +659,7 @@ fn in_use(rt: HostRuntime) -> io::Result<()> {
 }
 
 // What a free entry holds plays no part.
-fn not_in_use(rt: HostRuntime) -> io::Result<()> {
+fn not_in_use(rt: Output) -> io::Result<()> {
     let x = pairing(BOX, 94, 4, 30);
     let past = free(x, MOST_NUMBER + 1, 15, MOST_NUMBER + 1);
     ends(rt, "Free with key ID 4 and numbers of 2^48", past, 0)?;
@@ -680,6 +680,7 @@ fn not_in_use(rt: HostRuntime) -> io::Result<()> {
 }
 
 fn main(rt: HostRuntime) -> io::Result<()> {
+    let rt = Output(rt);
     adding(rt)?;
     one_octet(rt)?;
     zeros(rt)?;

@@ -10,6 +10,7 @@ ghost use Rattle.rules.specs.Limits.{priorities};
 use cases::{ADDRESS, Counted, KEY, all_zeros, with_window};
 use ccmp::MOST_NUMBER;
 use rules::{Receiver, Refusal, Success};
+use show::Output;
 use std::{fmt, io};
 
 // What a call answered, printed without its octets, of which there are 27 wherever it is done.
@@ -95,7 +96,7 @@ fn text_of(p: usize, n: u64) -> [u8; 43]
 
 // Opens the text, of priority p and number n: a case in a line.
 fn opens_text(
-    rt: HostRuntime,
+    rt: Output,
     r: Receiver,
     p: usize,
     n: u64,
@@ -124,14 +125,14 @@ fn opens_text(
     Ok(next)
 }
 
-fn opens(rt: HostRuntime, r: Receiver, p: usize, n: u64, expected: u8) -> io::Result<Receiver>
+fn opens(rt: Output, r: Receiver, p: usize, n: u64, expected: u8) -> io::Result<Receiver>
     requires { p < priorities }
 {
     opens_text(rt, r, p, n, text_of(p, n), expected)
 }
 
 // The same in priority 6 with the text damaged.
-fn forged(rt: HostRuntime, r: Receiver, n: u64, expected: u8) -> io::Result<Receiver> {
+fn forged(rt: Output, r: Receiver, n: u64, expected: u8) -> io::Result<Receiver> {
     let mut text = text_of(6, n);
     text[34] ^= 1;
     print!(rt; "forged; ")?;
@@ -139,13 +140,13 @@ fn forged(rt: HostRuntime, r: Receiver, n: u64, expected: u8) -> io::Result<Rece
 }
 
 // Number n opened in priority 6 by a record with this window there: marks 1 hold the greatest alone, 0xffff sixteen numbers.
-fn at(rt: HostRuntime, size: u8, greatest: u64, seen: u16, n: u64, expected: u8) -> io::Result<()> {
+fn at(rt: Output, size: u8, greatest: u64, seen: u16, n: u64, expected: u8) -> io::Result<()> {
     opens(rt, record(size, 6, greatest, seen), 6, n, expected)?;
     Ok(())
 }
 
 // Late numbers and jumps, with 100 the greatest in a window that holds all from 99 to 85 or none of them.
-fn from_100(rt: HostRuntime, size: u8, seen: u16, within: u8) -> io::Result<()> {
+fn from_100(rt: Output, size: u8, seen: u16, within: u8) -> io::Result<()> {
     at(rt, size, 100, seen, 100, 10)?;
     at(rt, size, 100, seen, 99, within)?;
     at(rt, size, 100, seen, 86, within)?;
@@ -159,7 +160,7 @@ fn from_100(rt: HostRuntime, size: u8, seen: u16, within: u8) -> io::Result<()> 
     Ok(())
 }
 
-fn opens_zero(rt: HostRuntime, r: Receiver) -> io::Result<()> {
+fn opens_zero(rt: Output, r: Receiver) -> io::Result<()> {
     let mut out = [0u8; 27];
     let opened = ccmp::open(r, &text_of(6, 0), &mut out);
     print!(rt; " {}", Answer(opened.answer).number())?;
@@ -170,7 +171,7 @@ fn opens_zero(rt: HostRuntime, r: Receiver) -> io::Result<()> {
 }
 
 // Number 0 at a greatest from 0 to 15.
-fn zeros(rt: HostRuntime, size: u8) -> io::Result<()> {
+fn zeros(rt: Output, size: u8) -> io::Result<()> {
     at(rt, size, 0, 0, 0, 10)?;
     print!(rt; "size {size}, at 1 to 15 alone, open 0:")?;
     for greatest in 1..16 {
@@ -179,7 +180,7 @@ fn zeros(rt: HostRuntime, size: u8) -> io::Result<()> {
     println!(rt; " | 02: 10")
 }
 
-fn twice(rt: HostRuntime) -> io::Result<()> {
+fn twice(rt: Output) -> io::Result<()> {
     let r = opens(rt, record(16, 6, 0, 0), 6, 20, 0)?;
     let r = opens(rt, r, 6, 20, 10)?;
     let r = opens(rt, r, 6, 18, 0)?;
@@ -197,7 +198,7 @@ fn twice(rt: HostRuntime) -> io::Result<()> {
     Ok(())
 }
 
-fn forgeries(rt: HostRuntime) -> io::Result<()> {
+fn forgeries(rt: Output) -> io::Result<()> {
     let r = forged(rt, record(16, 6, 100, 1), 99, 11)?;
     let r = forged(rt, r, 101, 11)?;
     let r = forged(rt, r, MOST_NUMBER, 11)?;
@@ -210,7 +211,7 @@ fn forgeries(rt: HostRuntime) -> io::Result<()> {
     Ok(())
 }
 
-fn priorities(rt: HostRuntime) -> io::Result<()> {
+fn priorities(rt: Output) -> io::Result<()> {
     let r = opens(rt, record(16, 6, 100, 0xffff), 7, 100, 0)?;
     let r = opens(rt, r, 7, 85, 0)?;
     let r = opens(rt, r, 6, 85, 10)?;
@@ -223,7 +224,7 @@ fn priorities(rt: HostRuntime) -> io::Result<()> {
 
 // Number n opened with this window in its priority, and number 1 with the window in priority 15.
 fn stands(
-    rt: HostRuntime,
+    rt: Output,
     size: u8,
     greatest: u64,
     seen: u16,
@@ -237,7 +238,7 @@ fn stands(
     Ok(())
 }
 
-fn windows(rt: HostRuntime) -> io::Result<()> {
+fn windows(rt: Output) -> io::Result<()> {
     stands(rt, 16, 5, 0x0011, 6, 0, 0)?;
     stands(rt, 16, 5, 0x0021, 6, 1, 1)?;
     stands(rt, 16, 5, 0x0041, 6, 1, 1)?;
@@ -258,7 +259,7 @@ fn windows(rt: HostRuntime) -> io::Result<()> {
     Ok(())
 }
 
-fn sizes(rt: HostRuntime) -> io::Result<()> {
+fn sizes(rt: Output) -> io::Result<()> {
     at(rt, 0, 100, 1, 101, 1)?;
     at(rt, 2, 100, 1, 101, 1)?;
     at(rt, 15, 100, 1, 101, 1)?;
@@ -268,7 +269,7 @@ fn sizes(rt: HostRuntime) -> io::Result<()> {
 }
 
 // A fresh receiver asked for, and number 1 opened with the record handed back.
-fn fresh(rt: HostRuntime, key_id: u8, size: u8, expected: u8) -> io::Result<()> {
+fn fresh(rt: Output, key_id: u8, size: u8, expected: u8) -> io::Result<()> {
     let fresh = ccmp::fresh_receiver(KEY, key_id, ADDRESS, size);
     let r = fresh.receiver;
     print!(rt;
@@ -283,7 +284,7 @@ fn fresh(rt: HostRuntime, key_id: u8, size: u8, expected: u8) -> io::Result<()> 
     Ok(())
 }
 
-fn fresh_receivers(rt: HostRuntime) -> io::Result<()> {
+fn fresh_receivers(rt: Output) -> io::Result<()> {
     fresh(rt, 3, 0, 1)?;
     fresh(rt, 3, 1, 0)?;
     fresh(rt, 3, 2, 1)?;
@@ -298,6 +299,7 @@ fn fresh_receivers(rt: HostRuntime) -> io::Result<()> {
 }
 
 fn main(rt: HostRuntime) -> io::Result<()> {
+    let rt = Output(rt);
     println!(rt; "Late numbers and jumps, where the greatest is held alone and where sixteen are")?;
     from_100(rt, 1, 1, 10)?;
     from_100(rt, 16, 1, 0)?;
