@@ -8,7 +8,7 @@ ghost use Rattle.std.specs.Prelude.{◌+◌, ◌≤◌, length};
 
 use ccmp::{ADDED, LARGE_WINDOW, SMALL_WINDOW};
 use rules::{Pairing, Table, Triple};
-use show::Hex;
+use show::{Hex, Output};
 use std::io;
 use std::io::Read;
 
@@ -130,13 +130,13 @@ fn opened_of<F: FnMut(&[u8], bool) -> bool>(calls: u64, size: usize, air: &[u8],
 }
 
 // How many calls were done, and the end of the last frame written.
-fn tell(rt: HostRuntime, count: u64, end: &[u8]) -> io::Result<()> {
+fn tell(rt: Output, count: u64, end: &[u8]) -> io::Result<()> {
     println!(rt; "{count} done, the last ends in {}", Hex(end))
 }
 
 // The box seals a frame for its last camera. Which step a turn runs is picked here, as a closure: with a function for each way, that gave
 // its closure to a common one, a call through the table took 100 ns more.
-fn seals(rt: HostRuntime, by_table: bool, body: Body, calls: u64) -> io::Result<()> {
+fn seals(rt: Output, by_table: bool, body: Body, calls: u64) -> io::Result<()> {
     let size = body.size();
     let frame = frame_of(*b"\x08\x02\x00\x00\x02cam-\x10\x02box-1\x02box-1\x10\x00");
     let frame = &frame[0..size];
@@ -161,7 +161,7 @@ fn seals(rt: HostRuntime, by_table: bool, body: Body, calls: u64) -> io::Result<
 }
 
 // The box opens frames from its last camera, each turn from a fresh table or record. The step is picked here, as in seals.
-fn opens(rt: HostRuntime, by_table: bool, window: u8, body: Body, calls: u64) -> io::Result<()> {
+fn opens(rt: Output, by_table: bool, window: u8, body: Body, calls: u64) -> io::Result<()> {
     let size = body.size();
     let frame = frame_of(*b"\x08\x01\x00\x00\x02box-1\x02cam-\x10\x02box-1\x10\x00");
     let mut air = [0u8; AIR];
@@ -210,14 +210,16 @@ fn body_of(letter: u8) -> Body {
 }
 
 // What is no digit counts as 0.
-fn digit(x: u8) -> u64 {
+fn digit(x: u8) -> u64
+    ensures { result ≤ 9 }
+{
     match x {
         b'0'..=b'9' => u64::from(x - b'0'),
         _ => 0,
     }
 }
 
-fn serve(rt: HostRuntime, request: &[u8; REQUEST]) -> io::Result<()> {
+fn serve(rt: Output, request: &[u8; REQUEST]) -> io::Result<()> {
     let way = request[0];
     let by_table = way == b't' || way == b'T';
     let body = body_of(request[2]);
@@ -253,7 +255,7 @@ fn main(rt: HostRuntime) -> io::Result<()> {
     let n = read_full(rt, &mut text);
     let (requests, _) = text[0..n].as_chunks::<REQUEST>();
     for request in requests {
-        serve(rt, request)?;
+        serve(Output(rt), request)?;
     }
     Ok(())
 }
