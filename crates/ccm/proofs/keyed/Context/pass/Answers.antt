@@ -3,6 +3,7 @@ use mathlib.Core.Bool.{cond}
 use Prim.Native.Nat.{ℕ, ◌<◌, ◌-◌, ◌+◌, ◌*◌}
 use native.Mathlib.Omega.{arith}
 use lib.ListN.{length, take, drop}
+use Rattle.std.specs.Int.{div_ceil}
 use Rattle.aes.specs.KeyExpansion.{aes128}
 use Rattle.aes.specs.Word.{bytes_of}
 use Rattle.ccm.specs.Blocks.{xors, padded}
@@ -24,7 +25,8 @@ loop-k-preserved g c =
     let at = 16 * l.k in
     let out = l.out in
     let lo = l.invariant.1 in
-    let h : at < length s = within (length s) l.k _ c.div_ceil-k-end.ensures c.loop-k-test.true in
+    let count : c.div_ceil-k-end.result ≡ div_ceil (length s) 16 = omega (arith, c.div_ceil-k-end.ensures) in
+    let h : at < length s = within (length s) l.k _ count c.loop-k-test.true in
     let key = l.invariant.3 ∙ ap (S E N) (counter_within (length s) at (a.i + l.k) a.after h) in
     let part : (n : ℕ) → n ≡ length s - at → take n (bytes_of c.add-masked.result) ≡ xors (take 16 (drop at s)) (S E N (a.i + l.k))
     = λ n e. block_masked E s l.k hE N a.i _ _ _ n h e c.block_at-block.ensures key c.add-masked.ensures in
@@ -50,7 +52,8 @@ returns g c =
     let s = a.s.now in
     let E = aes128 a.self.now.cipher in
     let hE = length_aes128 a.self.now.cipher in
-    let end = behind (length s) l.k _ c.div_ceil-k-end.ensures c.loop-k-test.false in
+    let count : c.div_ceil-k-end.result ≡ div_ceil (length s) 16 = omega (arith, c.div_ceil-k-end.ensures) in
+    let end = behind (length s) l.k _ count c.loop-k-test.false in
     record {
       key = l.invariant.3 ∙ ap (S E a.self.now.nonce) (counter_behind (length s) (16 * l.k) (a.i + l.k) a.after end);
       x = fed E s l.k hE a.self.now.nonce a.i g.D.Direction.opens (bytes_of l.x) _ end l.invariant.5;
